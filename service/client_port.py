@@ -112,8 +112,7 @@ class ClientPort:
             raise Refused("closed")
         if replica.is_over():
             raise Refused("over")
-        waiting = replica.intake.desk.charged[replica.me]
-        if waiting + len(txs) > replica.setup.config.max_waiting:
+        if replica.core.held().own + len(txs) > replica.setup.config.max_waiting:
             raise Refused("busy")
         new = replica.intake.submit(txs)
         if not await while_there(replica.turns.durable(txs), reader):
@@ -134,14 +133,14 @@ class ClientPort:
 
     def status(self) -> dict[str, object]:
         """Where the replica stands, and what it counted since its start."""
-        replica, intake = self.replica, self.replica.intake
+        replica, intake, core = self.replica, self.replica.intake, self.replica.core
         now = time.monotonic()
         return {
             "replica": replica.me, "session": replica.setup.cluster.session,
             "view": replica.view, "views": replica.setup.cluster.views, "commit": replica.commit,
             "batches": len(replica.batches), "digest": replica.digest.hex(),
-            "arrived": len(intake.known), "final": len(intake.desk.finals),
-            "pending": len(intake.pending), "queued": len(intake.desk.held), "given": intake.given,
+            "arrived": core.known(), "final": replica.final,
+            "pending": intake.pending, "queued": core.held().all, "given": intake.given,
             "heard": replica.peers.count_heard(now), "log_bytes": replica.log.end,
             "is_over": replica.is_over(), "is_closing": replica.is_closing,
             "dropped": sum(link.dropped for link in replica.links.values()),

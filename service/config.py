@@ -76,7 +76,6 @@ class Config:
     share_after: float = 0.5        # time after which peers are told of waiting ones again
     max_waiting: int = 16_000       # of clients, that wait; above it clients hear `busy`
     hold_asks: bool = True          # an Ask waits until f+1 replicas are in its view
-    use_keys: bool = True           # arrivals by key; without it a burst can stop a session
     fetch_rate: float = 100.0       # blocks a second that a peer may ask for
     fsync: bool = True
     allow_faults: bool = False      # for tests: the client port takes the command `fault`

@@ -19,12 +19,16 @@ except ModuleNotFoundError:
     sys.path.append(str(Path(__file__).resolve().parent.parent / "bindings" / "python"))
     import themis
 
-from themis import Again, MissingFunction, NoMemory, Role, Run, ThemisError, Tx, public_key
+from themis import (
+    Again, Held, MissingFunction, NoMemory, Role, Run, Taken, ThemisError, Tx, public_key,
+)
+from themis import Standing as TxStanding
 
 __all__ = [
-    "Again", "Arrived", "Core", "Delivered", "Event", "MissingFunction", "NoMemory", "Role", "Run",
-    "ThemisError", "Tick", "Tx", "audit_trace", "event_of", "public_key", "receipts_bytes",
-    "receipts_of", "tx_bytes", "tx_of_bytes", "tx_of_text", "tx_text", "txs_of_bytes",
+    "Again", "Arrived", "Core", "Delivered", "Event", "Held", "MissingFunction", "NoMemory",
+    "Role", "Run", "Taken", "ThemisError", "Tick", "Tx", "TxStanding", "audit_trace", "event_of",
+    "public_key", "receipts_bytes", "receipts_of", "tx_bytes", "tx_of_bytes", "tx_of_text",
+    "tx_text", "txs_of_bytes",
 ]
 
 SECRET_BYTES, KEY_BYTES = 48, 60
@@ -174,12 +178,55 @@ class Core:
     def known(self) -> int:
         return self._replica.known()
 
-    def is_proposed(self, tx: Tx) -> bool:
-        return self._replica.is_proposed(tx)
-
     def gives(self, above: int) -> Iterator[bytes]:
         """Give messages of the stored blocks above a view, oldest first."""
         yield from self._replica.gives(above)
+
+    # ---- receipt
+
+    def submit(self, tx: Tx) -> Taken:
+        """A transaction of an own client."""
+        return self._replica.submit(tx)
+
+    def hear(self, peer: int, tx: Tx, stamp: int) -> Taken:
+        """A receipt that a peer reports."""
+        return self._replica.hear(peer, tx, stamp)
+
+    def hear_clock(self, peer: int, clock: int) -> None:
+        self._replica.hear_clock(peer, clock)
+
+    def restore(self, tx: Tx) -> Taken:
+        """A transaction that arrived before a start."""
+        return self._replica.restore(tx)
+
+    def settle(self, txs: Sequence[Tx]) -> None:
+        """Transactions that are final."""
+        self._replica.settle(txs)
+
+    def accepted(self, data: bytes) -> bool:
+        """The message of a block that the core accepts; whether it is one."""
+        return self._replica.accepted(data)
+
+    def arrive(self) -> tuple[list[Tx], int]:
+        """What arrives now, and how many of them, at the end, are exceptions."""
+        return self._replica.arrive()
+
+    def arrive_proposed(self) -> list[Tx]:
+        """What arrives now where nothing more is to: what blocks propose, and what comes before."""
+        return self._replica.arrive_proposed()
+
+    def receipts(self, after: int, most: int) -> list[tuple[Tx, int]]:
+        """The own receipts with a greater stamp that are not final, in order."""
+        return self._replica.receipts(after, most)
+
+    def standing(self, tx: Tx) -> TxStanding:
+        return self._replica.standing(tx)
+
+    def clock(self) -> int:
+        return self._replica.clock()
+
+    def held(self) -> Held:
+        return self._replica.held()
 
 
 def audit_trace(trace: bytes, run: Run, publics: Sequence[bytes]) -> themis.Finding:

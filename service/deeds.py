@@ -166,8 +166,9 @@ async def pretend(replica: Replica) -> None:
         await asyncio.sleep(EVERY)
         view = max(replica.view, replica.known_view())
         view += not leads(replica, view)
-        if leads(replica, view):
-            send_all(replica, no_proposal(replica.me, view, list(replica.intake.desk.held)[:1000]))
+        if view > 0 and leads(replica, view):
+            txs = [tx for tx, _ in replica.core.receipts(0, 1000)]
+            send_all(replica, no_proposal(replica.me, view, txs))
 
 
 def no_proposal(me: int, view: int, txs: list[Tx]) -> bytes:

@@ -44,8 +44,9 @@ class Gossip:
         if self.is_due:
             self.is_due = False
             self.send_status()
+        later: dict[int, list[tuple[Tx, int]]] = {}
         for peer in self.replica.links:
-            self._tell(peer)
+            self._tell(peer, later)
 
     async def run_gossip(self) -> None:
         """Says where the replica stands, and asks for blocks where it is behind, for ever."""
@@ -67,13 +68,16 @@ class Gossip:
             if self.is_due or now - self.reported_at >= ANNOUNCE_EVERY:
                 self._announce(now)
 
-    def _tell(self, peer: int) -> None:
-        """Tells a peer the receipts that it was not told of on this connection, in order."""
+    def _tell(self, peer: int, later: dict[int, list[tuple[Tx, int]]]) -> None:
+        """Tells a peer the receipts that it was not told of on this connection, in order. `later`
+        are those after a stamp, which mostly are the same for all peers."""
         number, stamp = self.told[peer]
         is_new = number != self.replica.links[peer].connections
         if is_new:
             number, stamp = self.replica.links[peer].connections, 0
-        receipts = self.replica.intake.desk.receipts_after(stamp, MAX_RECEIPTS)
+        if stamp not in later:
+            later[stamp] = self.replica.core.receipts(stamp, MAX_RECEIPTS)
+        receipts = later[stamp]
         self.told[peer] = number, receipts[-1][1] if receipts else stamp
         receipts = self.replica.misbehaviour.tell(peer, receipts)
         if receipts or is_new:      # the clock alone, where nothing was received
@@ -81,11 +85,11 @@ class Gossip:
 
     def _tell_again(self) -> None:
         """Tells the oldest receipts again: a frame may be lost, and a peer may have had no room."""
-        oldest = self.replica.intake.desk.receipts_after(0, MAX_DRAWN)
+        oldest = self.replica.core.receipts(0, MAX_DRAWN)
         for peer in self.replica.links:
             if receipts := self.replica.misbehaviour.tell(peer, oldest):
                 self._send(peer, receipts)
 
     def _send(self, peer: int, receipts: list[tuple[Tx, int]]) -> None:
-        clock = self.replica.intake.desk.clock
+        clock = self.replica.core.clock()
         self.replica.links[peer].send(Kind.RECEIPTS, receipts_bytes(clock, receipts))

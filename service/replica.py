@@ -76,17 +76,14 @@ class Replica:
         self.fetches = {i: Budget(config.fetch_rate, 2 * MAX_BLOCKS) for i in others}
         self.requests = {i: Budget(config.fetch_rate, 2 * MAX_BLOCKS) for i in others}
         self.asks, self.given = EarlyAsks(), GivenBlocks(setup.cluster.views)
-        self.proposed: dict[Tx, bool] = {}
-        self.intake = Intake(
-            self.me, self.n, self.quorum, self._is_proposed, config.use_keys,
-            settled=setup.settled_before(),
-        )
+        self.intake = Intake(self.core, self.me, self.quorum, setup.settled_before())
         if config.log_receipts:
-            self.intake.desk.log = ReceiptLog(path_of(setup.folder, self.me))
+            self.intake.log = ReceiptLog(path_of(setup.folder, self.me))
         self.turns = Turns(self)
         self.has_batches = asyncio.Condition()
         self.batches: list[list[Tx]] = []
         self.digest = bytes(32)             # of the list of batches
+        self.final = 0                      # how many transactions these have
         self.view = self.commit = self.batch_view = 0
         self.started_at, self.commit_at, self.is_closing = now, now, False
         self.gossip, self.catch_up = Gossip(self), CatchUp(self)
@@ -123,7 +120,7 @@ class Replica:
         self.intake.restore(known)
         for body in log.bodies(data, core.DELIVERED):
             self.shown.store(wire.block_views(body[2:]))
-            self.intake.name(wire.fresh_lists(body[2:]))
+            self.intake.accept(body[2:])
             if wire.given_view(body[2:]) is not None and not self.given.is_stored(body[4:]):
                 self.given.store(body[1], body[4:])
         if self.batches:
@@ -163,12 +160,9 @@ class Replica:
     def _follow_message(self, event: Delivered, reason: int, sends: Sends, now: float) -> None:
         kind = wire.kind_of(event.data)
         if reason == core.DONE and kind not in KEEPS_CHAIN:
-            self._forget_proposed()
+            self.intake.is_stale = True         # the highest chain may have grown
         if kind in (wire.Message.PROPOSE, wire.Message.GIVE) and reason == core.DONE:
-            self._accept_block(event.data)
-        elif reason != core.REPEAT and event in self.turns.foreseen:
-            if views := wire.proposed_views(event.data):
-                self.intake.refuse(views[0])
+            self._store_block(event.data)
         given = wire.given_view(event.data)
         if given is not None:
             self._follow_give(event, given, reason)
@@ -180,12 +174,10 @@ class Replica:
         if reason in core.FAULTS:
             self.stats[f"refused of {event.sender}"] += 1
 
-    def _accept_block(self, data: bytes) -> None:
+    def _store_block(self, data: bytes) -> None:
         """The core stored the block of a Propose or a Give."""
-        views = wire.block_views(data)
-        self.shown.store(views)
-        if views is not None:
-            self.intake.accept(*views, wire.fresh_lists(data))
+        self.shown.store(wire.block_views(data))
+        self.intake.accept(data)
         self.turns.wake()
 
     def _follow_give(self, event: Delivered, view: int, reason: int) -> None:
@@ -215,26 +207,18 @@ class Replica:
         if (view, commit) != (self.view, self.commit):
             self.view, self.commit = view, commit
             LOG.debug("moved", extra={"view": view, "commit": commit})
-            self._forget_proposed()
-
-    def _forget_proposed(self) -> None:
-        """The highest chain may have grown, so what it proposes is asked anew."""
-        self.proposed.clear()
-        self.intake.is_stale = True
+            self.intake.is_stale = True
 
     def _take_batches(self) -> None:
         """Takes what became final. The digest chains all batches, to compare replicas by it."""
+        final: list[Tx] = []
         for at in range(len(self.batches), self.core.batch_count()):
             batch = self.core.batch(at)
             self.batches.append(batch)
-            self.intake.settle(batch)
+            final += batch
             self.digest = sha256(self.digest + b"".join(map(core.tx_bytes, batch))).digest()
-
-    def _is_proposed(self, tx: Tx) -> bool:
-        """Whether the highest chain proposes a transaction; answers are kept while it stands."""
-        if tx not in self.proposed:
-            self.proposed[tx] = self.core.is_proposed(tx)
-        return self.proposed[tx]
+        self.final += len(final)
+        self.intake.settle(final)
 
     # ---- pace
 
@@ -248,13 +232,12 @@ class Replica:
         return is_guarded and self.asks.holds(peer, data, self.known_view())
 
     def standing(self) -> Standing:
-        waiting = len(self.intake.pending)
-        return Standing(self.view, self.commit, waiting, len(self.batches))
+        return Standing(self.view, self.commit, self.intake.pending, len(self.batches))
 
     def is_wanted(self, now: float) -> bool:
         """Whether further views are wanted: here, or at more peers than may be faulty; or so that
         a block shows what is final."""
-        is_waiting = bool(self.intake.pending) or self.peers.someone_waits(now)
+        is_waiting = self.intake.pending > 0 or self.peers.someone_waits(now)
         return is_waiting or not self.shown.is_all()
 
     def _release(self, now: float) -> None:
@@ -298,8 +281,8 @@ class Replica:
     def close(self) -> None:
         self.log.close()
         self.core.close()
-        if self.intake.desk.log is not None:
-            self.intake.desk.log.close()
+        if self.intake.log is not None:
+            self.intake.log.close()
 
 
 async def serve(replica: Replica) -> None:

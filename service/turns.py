@@ -34,7 +34,6 @@ class Turns:
         self.next_peer = 0
         self.to_self: list[bytes] = []
         self.again: list[Event] = []
-        self.foreseen: list[Delivered] = []     # proposals whose turns are expected to accept them
         self.tick: tuple[int, Tick] | None = None       # with the view that it leaves
         self.clients: list[tuple[asyncio.Future[bool], list[Tx]]] = []
         self.has_work = asyncio.Event()
@@ -136,7 +135,6 @@ class Turns:
         asks = self.replica.asks.take(self.replica.known_view())
         messages += [Delivered(peer, data) for peer, data in asks]
         messages += self.messages(MAX_GROUP - len(events) - len(messages))
-        self.foreseen = [it for it in self.foreseen if it in self.again]
         self.again.clear()
         self._accept_proposals(messages)
         if self._is_time_to_arrive(messages, now):
@@ -150,10 +148,9 @@ class Turns:
         """What a proposal proposes makes room before its turn, so that the local order which that
         turn draws is full again. The core has checked it: it says that the turn would change it."""
         for it in messages:
-            views = wire.proposed_views(it.data)
-            if views and self.replica.core.would_change(it.sender, it.data):
-                self.replica.intake.accept(*views, wire.fresh_lists(it.data))
-                self.foreseen.append(it)
+            is_proposal = wire.kind_of(it.data) is wire.Message.PROPOSE
+            if is_proposal and self.replica.core.would_change(it.sender, it.data):
+                self.replica.intake.accept(it.data)
 
     def _is_time_to_arrive(self, messages: list[Delivered], now: float) -> bool:
         """Whether transactions arrive now. What arrives together needs one record and one sync. It
@@ -190,10 +187,10 @@ class Turns:
         none is asked again; the last one comes first, as it is mostly the last to arrive."""
         if not self.clients:
             return
-        known, is_final = self.replica.intake.known, self.replica.intake.is_final
+        is_safe = self.replica.intake.is_safe
         left, is_over = [], self.replica.is_over()
         for waiter, missing in self.clients:
-            while missing and (missing[-1] in known or is_final(missing[-1])):
+            while missing and is_safe(missing[-1]):
                 missing.pop()
             if waiter.done():
                 continue

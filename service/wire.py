@@ -1,7 +1,7 @@
 """What a host reads of the messages that it carries (docs/FORMATS.md, "Messages").
 
-The core checks every message itself. This module only looks at fields that guards, the intake and
-the audit of logs need, and answers nothing for bytes that it does not understand.
+The core checks every message itself. This module only looks at fields that guards and the audit of
+logs need, and answers nothing for bytes that it does not understand.
 """
 
 from __future__ import annotations
@@ -52,11 +52,6 @@ def given_view(data: bytes) -> int | None:
 def fetched_digest(data: bytes) -> bytes | None:
     """The digest of the block that a Fetch asks for; None for other messages."""
     return data[2:2 + DIGEST] if kind_of(data) is Message.FETCH else None
-
-
-def proposed_views(data: bytes) -> tuple[int, int] | None:
-    """The view of the block in a Propose, and that of its parent; None for other messages."""
-    return block_views(data) if kind_of(data) is Message.PROPOSE else None
 
 
 def block_views(data: bytes) -> tuple[int, int] | None:
@@ -135,32 +130,6 @@ class Reader:
         self.take(4)
         votes = list(self.certificate())
         return votes, [self.order() for _ in range(self.number(1))]
-
-    def fresh_lists(self) -> Iterator[tuple[int, list[Tx]]]:
-        """The fresh lists of a block, each with its replica. All else is passed over, and its seals
-        are not copied."""
-        self.skip(4 + 4 + DIGEST)
-        for _ in range(self.number(1)):
-            self.skip(1)
-            self.skip(self.number(2))
-        for _ in range(self.number(1)):
-            self.skip(1)
-            replica = self.number(1)
-            self.skip(4 + DIGEST)
-            yield replica, self.txs()
-            self.skip(TX_BYTES * self.number(2))
-            self.skip(self.number(2))
-
-
-def fresh_lists(data: bytes) -> dict[int, list[Tx]]:
-    """The fresh lists of the block in a Propose or a Give, by replica; none for other bytes."""
-    start = BLOCK_AT.get(kind_of(data) or Message.FETCH)
-    if start is None:
-        return {}
-    try:
-        return dict(Reader(data, start).fresh_lists())
-    except ValueError:
-        return {}
 
 
 def parts(data: bytes) -> list[Part]:

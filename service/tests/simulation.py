@@ -12,7 +12,7 @@ from collections.abc import Callable, Iterable
 from dataclasses import dataclass
 from itertools import islice
 
-from service import core, wire
+from service import core, log, wire
 from service.catch_up import ASK_EVERY, BEHIND_AFTER
 from service.core import Again, Arrived, Core, Delivered, Event, Role, Tick, Tx, public_key
 from service.frames import Standing
@@ -27,6 +27,7 @@ HEIGHT = 505            # 1,024 seals, so 204 views; grown within a moment
 N, F = 5, 1
 STEP = 0.05             # seconds of a round
 FETCH_RATE = 20
+MAX_TOLD = 1 << 14      # receipts of a round
 
 
 @dataclass(frozen=True)
@@ -34,7 +35,7 @@ class Guards:
     """Which guards stand. A test turns one off, to show what happens without it."""
 
     asks: bool = True           # an Ask waits until f+1 replicas are in its view
-    keys: bool = True           # above a few, what waits arrives by key
+    keys: bool = True           # above a few, what waits arrives by key; else all arrives at once
     naming: bool = True         # what a block names is received, and comes in
     sharing: bool = True        # replicas tell their receipts
     spreading: bool = True      # also of what no client sent them
@@ -79,10 +80,9 @@ class Host:
         self.role = Role(n=N, f=F, p=1, q=1, views=net.views, me=me, height=HEIGHT)
         self.core = Core(self.role, net.secrets[me], net.publics, b"")
         self.records = [self.core.header()]
-        self.intake = Intake(
-            me, N, N - F, lambda tx: self.core.is_proposed(tx), net.guards.keys
-        )
+        self.intake = Intake(self.core, me, N - F)
         self.intake.open()
+        self.own: set[Tx] = set()       # of its clients
         others = [i for i in range(N) if i != me]
         pace = Pace(timeout=0.3, max_timeout=3.0, interval=0.0, hold=net.guards.hold)
         self.peers = GuardedPeers(net.guards, others)
@@ -133,44 +133,51 @@ class Host:
 
     def _store(self, event: Delivered) -> None:
         """What a block says that was stored; nothing of other messages."""
-        views, lists = wire.block_views(event.data), wire.fresh_lists(event.data)
-        self.shown.store(views)
+        self.shown.store(wire.block_views(event.data))
         if wire.given_view(event.data) is not None:
             self.given.store(event.sender, event.data[2:])
-        if not self.net.guards.naming or views is None:
-            return
-        if self.net.guards.expecting:
-            self.intake.accept(*views, lists)
-        else:
-            self.intake.name(lists)
+        if self.net.guards.naming:
+            self.intake.accept(event.data)
 
     # ---- a round
 
     def round(self) -> None:
         """Takes what arrives, tells its receipts and proposes. Asks that waited are delivered."""
         self.take(Delivered(*it) for it in self.asks.take(self.known_view()))
-        if txs := self.intake.take():
-            self.take([Arrived(tuple(txs))])
+        self.take(self._arrivals())
         if self.net.guards.sharing:
-            desk = self.intake.desk
-            receipts = [it for it in desk.receipts_after(0, 1 << 20) if self._tells(it[0])]
+            receipts = [it for it in self.core.receipts(0, MAX_TOLD) if self._tells(it[0])]
             for other in self.net.up_hosts():
                 if other is not self:
-                    other.intake.hear(self.me, receipts, desk.clock)
+                    other.intake.hear(self.me, receipts, self.core.clock())
         self.net.send(self.me, self.hold.release(self.is_wanted(), 0, self.net.now))
 
     def _tells(self, tx: Tx) -> bool:
-        return self.net.guards.spreading or self.intake.desk.held[tx].source == self.me
+        return self.net.guards.spreading or tx in self.own
+
+    def submit(self, txs: list[Tx]) -> None:
+        """What clients send here."""
+        self.own.update(txs)
+        if self.net.guards.keys:
+            self.intake.submit(txs)
+        else:
+            self.take([Arrived(tuple(txs))])
 
     def known_view(self) -> int:
         return max(self.view, self.peers.reached(lambda it: it.view))
 
     def standing(self) -> Standing:
-        return Standing(self.view, self.commit, len(self.intake.pending), len(self.batches))
+        return Standing(self.view, self.commit, self.waiting(), len(self.batches))
+
+    def waiting(self) -> int:
+        """How many have arrived and are not final."""
+        if self.net.guards.keys:
+            return self.intake.pending
+        return self.core.known() - sum(map(len, self.batches))
 
     def is_wanted(self) -> bool:
         is_shown = self.shown.is_all() or not self.net.guards.showing
-        is_waiting = bool(self.intake.pending) or self.peers.someone_waits(self.net.now)
+        is_waiting = self.waiting() > 0 or self.peers.someone_waits(self.net.now)
         return is_waiting or not is_shown
 
     def pace(self) -> None:
@@ -201,12 +208,16 @@ class Host:
 
     def _arrivals_before(self, sender: int, data: bytes) -> list[Event]:
         """What arrives right before a proposal."""
-        if (views := wire.proposed_views(data)) is None:
+        if kind_of(data) is not Message.PROPOSE:
             return []
         guards = self.net.guards
         if guards.naming and guards.expecting and self.core.would_change(sender, data):
-            self.intake.accept(*views, wire.fresh_lists(data))
-        txs = self.intake.take()
+            self.intake.accept(data)
+        return self._arrivals()
+
+    def _arrivals(self) -> list[Event]:
+        """What the library lets arrive now."""
+        txs = self.intake.take() if self.net.guards.keys else []
         return [Arrived(tuple(txs))] if txs else []
 
     def crash(self, forgotten: int) -> None:
@@ -214,11 +225,15 @@ class Host:
         whole = [it for it in self.records if it]
         self.records = whole[:len(whole) - forgotten]
         self.core.close()
-        self.core = Core(
-            self.role, self.net.secrets[self.me], self.net.publics, b"".join(self.records)
-        )
+        data = b"".join(self.records)
+        self.core = Core(self.role, self.net.secrets[self.me], self.net.publics, data)
         self.batches = [self.core.batch(at) for at in range(self.core.batch_count())]
         self.view, self.commit = self.core.view(), self.core.commit_view()
+        self.intake = Intake(self.core, self.me, N - F)
+        self.intake.open()
+        self.intake.settle([tx for batch in self.batches for tx in batch])
+        arrivals = log.bodies(data, core.ARRIVED)
+        self.intake.restore(tx for body in arrivals for tx in core.txs_of_bytes(body[5:]))
 
 
 class Net:
@@ -273,7 +288,7 @@ class Net:
     def submit(self, txs: Iterable[Tx], to: Iterable[int] = range(N)) -> None:
         them = list(txs)
         for i in to:
-            self.hosts[i].intake.submit(them)
+            self.hosts[i].submit(them)
 
     def final(self, replica: int = 0) -> set[Tx]:
         return {tx for batch in self.hosts[replica].batches for tx in batch}

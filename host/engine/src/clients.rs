@@ -2,7 +2,7 @@
 
 use std::collections::BTreeMap;
 
-use themis::Tx;
+use themis::{Error, Tx};
 
 /// Names a submission; its host chooses it.
 pub type Ticket = u64;
@@ -55,22 +55,27 @@ impl Clients {
 
     /// The answers that are due. That a transaction is safe lasts, so none is asked again; the last
     /// one comes first, as it is mostly the last to arrive.
-    pub fn take(&mut self, is_over: bool, is_safe: impl Fn(&Tx) -> bool) -> Vec<(Ticket, Answer)> {
+    pub fn take(
+        &mut self,
+        is_over: bool,
+        mut is_safe: impl FnMut(&Tx) -> Result<bool, Error>,
+    ) -> Result<Vec<(Ticket, Answer)>, Error> {
         let mut out = Vec::new();
-        self.0.retain(|ticket, it| {
-            while it.missing.last().is_some_and(&is_safe) {
+        for (ticket, it) in &mut self.0 {
+            while let Some(tx) = it.missing.last() {
+                if !is_safe(tx)? {
+                    break;
+                }
                 it.missing.pop();
             }
             if it.missing.is_empty() {
                 out.push((*ticket, Answer::Ok { new: it.new, old: it.old }));
             } else if is_over {
                 out.push((*ticket, Answer::Over));
-            } else {
-                return true;
             }
-            false
-        });
-        out
+        }
+        out.iter().for_each(|(ticket, _)| self.remove(*ticket));
+        Ok(out)
     }
 }
 
@@ -84,9 +89,10 @@ mod tests {
         let mut clients = Clients::default();
         clients.put(7, vec![tx(1), tx(2)], 1);
         clients.put(8, vec![tx(3)], 1);
-        assert!(clients.take(false, |it| it.number == 2).is_empty());
-        assert_eq!(clients.take(false, |it| it.number < 3), [(7, Answer::Ok { new: 1, old: 1 })]);
-        assert_eq!(clients.take(true, |_| false), [(8, Answer::Over)]);
+        assert_eq!(clients.take(false, |it| Ok(it.number == 2)), Ok(vec![]));
+        let ok = (7, Answer::Ok { new: 1, old: 1 });
+        assert_eq!(clients.take(false, |it| Ok(it.number < 3)), Ok(vec![ok]));
+        assert_eq!(clients.take(true, |_| Ok(false)), Ok(vec![(8, Answer::Over)]));
         assert_eq!(clients.len(), 0);
     }
 }

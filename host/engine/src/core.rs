@@ -1,9 +1,9 @@
 //! The core as the engine calls it: events as values, and what it said last.
 
-use std::collections::HashMap;
-
 use bytes::Bytes;
 use themis::{Error, Message, Reason, Replica, Tx};
+
+pub use crate::intake::Desk;
 
 /// What the core takes.
 #[derive(Clone, Debug, PartialEq, Eq)]
@@ -36,6 +36,10 @@ pub enum Turn {
 
 /// The calls of a replica of the library. A test or a simulator may put something in its place.
 pub trait Core {
+    /// What holds the replica's receipts.
+    type Desk: Desk;
+    /// What the replica received and heard.
+    fn desk(&mut self) -> &mut Self::Desk;
     /// Prepares an event, and returns its record; no bytes where it needs none.
     fn prepare(&mut self, event: &Event) -> Result<Vec<u8>, Error>;
     /// Whether the turn on a message would change the replica now, with its seals checked.
@@ -50,8 +54,6 @@ pub trait Core {
     fn batch(&mut self, at: usize) -> Result<Vec<Tx>, Error>;
     /// The view, and the view of the committed block.
     fn views(&mut self) -> Result<(u32, u32), Error>;
-    /// Whether the highest certified chain proposes a transaction.
-    fn is_proposed(&mut self, tx: &Tx) -> Result<bool, Error>;
     /// How many stored blocks are above a view.
     fn give_count(&mut self, above: u32) -> Result<usize, Error>;
     /// One of these blocks, as a Give.
@@ -59,6 +61,12 @@ pub trait Core {
 }
 
 impl Core for Replica {
+    type Desk = Replica;
+
+    fn desk(&mut self) -> &mut Replica {
+        self
+    }
+
     fn prepare(&mut self, event: &Event) -> Result<Vec<u8>, Error> {
         match event {
             Event::Arrived(txs) => self.prepare_arrived(txs),
@@ -95,10 +103,6 @@ impl Core for Replica {
         self.views()
     }
 
-    fn is_proposed(&mut self, tx: &Tx) -> Result<bool, Error> {
-        self.is_proposed(tx)
-    }
-
     fn give_count(&mut self, above: u32) -> Result<usize, Error> {
         self.give_count(above)
     }
@@ -106,12 +110,6 @@ impl Core for Replica {
     fn give(&mut self, above: u32, at: usize) -> Result<Vec<u8>, Error> {
         self.give(above, at)
     }
-}
-
-/// What a chain of blocks proposes.
-pub trait Chain {
-    /// Whether the highest certified chain proposes a transaction.
-    fn is_proposed(&mut self, tx: &Tx) -> Result<bool, Error>;
 }
 
 /// The core, and what the engine remembers of its answers.
@@ -123,15 +121,13 @@ pub struct Watched<C> {
     pub view: u32,
     /// The view of its committed block.
     pub commit: u32,
-    /// What the highest chain proposes, as far as it was asked.
-    proposed: HashMap<Tx, bool>,
 }
 
 impl<C: Core> Watched<C> {
     /// A core as it stands.
     pub fn new(mut core: C) -> Result<Watched<C>, Error> {
         let (view, commit) = core.views()?;
-        Ok(Watched { core, view, commit, proposed: HashMap::new() })
+        Ok(Watched { core, view, commit })
     }
 
     /// Asks for the views anew; whether they have changed.
@@ -140,22 +136,6 @@ impl<C: Core> Watched<C> {
         let has_moved = views != (self.view, self.commit);
         (self.view, self.commit) = views;
         Ok(has_moved)
-    }
-
-    /// The highest chain may have grown, so what it proposes is asked anew.
-    pub fn forget_proposed(&mut self) {
-        self.proposed.clear();
-    }
-}
-
-impl<C: Core> Chain for Watched<C> {
-    fn is_proposed(&mut self, tx: &Tx) -> Result<bool, Error> {
-        if let Some(known) = self.proposed.get(tx) {
-            return Ok(*known);
-        }
-        let is_proposed = self.core.is_proposed(tx)?;
-        self.proposed.insert(*tx, is_proposed);
-        Ok(is_proposed)
     }
 }
 

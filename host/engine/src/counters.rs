@@ -1,5 +1,7 @@
 //! What a replica counts since its start, for its status.
 
+use std::fmt;
+
 use themis::Reason;
 
 const REASONS: usize = 14;
@@ -55,26 +57,27 @@ impl Counters {
         self.peers[peer as usize].proposals_refused[number_of(reason)] += 1;
     }
 
-    /// All counts that are not 0, with their names in the status.
-    pub fn fields(&self) -> Vec<(String, u64)> {
-        let named = |name: &str, count| (name.to_owned(), count);
-        let mut out = vec![
-            named("ticks", self.ticks),
-            named("again", self.again),
-            named("blocks asked", self.blocks_asked),
-        ];
-        let turns = self.reasons.iter().enumerate();
-        out.extend(turns.map(|(it, count)| (format!("reason {it}"), *count)));
-        for (peer, it) in self.peers.iter().enumerate() {
-            out.extend(it.fields(peer));
+    /// All counts.
+    pub fn all(&self) -> Vec<Count> {
+        let own =
+            [("ticks", self.ticks), ("again", self.again), ("blocks asked", self.blocks_asked)];
+        let none = Count { name: "", peer: None, reason: None, value: 0 };
+        let mut out: Vec<Count> =
+            own.into_iter().map(|(name, value)| Count { name, value, ..none }).collect();
+        out.extend(by_reason(&self.reasons, Count { name: "reason", ..none }));
+        for (peer, it) in (0..).zip(&self.peers) {
+            out.extend(it.all(Count { peer: Some(peer), ..none }));
         }
-        out.retain(|(_, count)| *count > 0);
         out
     }
 }
 
+fn by_reason(counts: &[u64; REASONS], of: Count) -> impl Iterator<Item = Count> + '_ {
+    (0..).zip(counts).map(move |(it, value)| Count { reason: Some(it), value: *value, ..of })
+}
+
 impl OfPeer {
-    fn fields(&self, peer: usize) -> Vec<(String, u64)> {
+    fn all(&self, of: Count) -> impl Iterator<Item = Count> + '_ {
         let counts = [
             ("asks held", self.asks_held),
             ("fetches dropped", self.fetches_dropped),
@@ -83,11 +86,34 @@ impl OfPeer {
             ("receipts dropped", self.receipts_dropped),
             ("refused", self.refused),
         ];
-        let counts = counts.into_iter().map(|(name, count)| (format!("{name} of {peer}"), count));
-        let refused = self.proposals_refused.iter().enumerate();
-        counts
-            .chain(refused.map(|(it, n)| (format!("proposals refused of {peer} for {it}"), *n)))
-            .collect()
+        let counts = counts.into_iter().map(move |(name, value)| Count { name, value, ..of });
+        let refused = Count { name: "proposals refused", ..of };
+        counts.chain(by_reason(&self.proposals_refused, refused))
+    }
+}
+
+/// How often something happened. Its text is its name in the status.
+#[derive(Clone, Copy, Debug, PartialEq, Eq)]
+pub struct Count {
+    /// What happened.
+    pub name: &'static str,
+    /// The peer that it is counted for.
+    pub peer: Option<u32>,
+    /// The number in themis.h of the reason of a turn.
+    pub reason: Option<u32>,
+    /// How often.
+    pub value: u64,
+}
+
+impl fmt::Display for Count {
+    fn fmt(&self, to: &mut fmt::Formatter<'_>) -> fmt::Result {
+        to.write_str(self.name)?;
+        match (self.peer, self.reason) {
+            (Some(peer), Some(reason)) => write!(to, " of {peer} for {reason}"),
+            (Some(peer), None) => write!(to, " of {peer}"),
+            (None, Some(reason)) => write!(to, " {reason}"),
+            (None, None) => Ok(()),
+        }
     }
 }
 

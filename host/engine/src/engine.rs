@@ -1,6 +1,5 @@
 //! The state of a replica's host, its inputs and its outputs.
 
-use std::collections::HashSet;
 use std::time::Duration;
 
 use bytes::Bytes;
@@ -9,7 +8,7 @@ use themis::{Error, Message, Tx};
 
 use crate::catch_up::{CatchUp, Request};
 use crate::clients::{Answer, Clients, Ticket};
-use crate::core::{event_of, records, Core, Delivered, Event, Watched};
+use crate::core::{event_of, records, Core, Delivered, Desk, Event, Watched};
 use crate::counters::Counters;
 use crate::frame::{Frame, Standing};
 use crate::gossip::Told;
@@ -96,7 +95,7 @@ pub struct Restored<'a> {
     /// The size of the log's header.
     pub header: usize,
     /// What was final in earlier sessions.
-    pub settled: HashSet<Tx>,
+    pub settled: Vec<Tx>,
     /// What arrived in the session before and was not final, in its order.
     pub carried: Vec<Tx>,
 }
@@ -186,7 +185,7 @@ impl<C: Core> Engine<C> {
             orphans: Orphans::default(),
             given: GivenBlocks::new(place.n, place.views),
             allowances: (0..place.n).map(allowance).collect(),
-            intake: Intake::new(place, options.use_keys, options.log_receipts, restored.settled),
+            intake: Intake::new(place, options.log_receipts),
             catch_up: CatchUp::new(place.n),
             inbox: Inbox::new(place.n),
             turns: Turns::default(),
@@ -202,8 +201,10 @@ impl<C: Core> Engine<C> {
             timers: Timers { pace: now, announce: now, gossip: now },
             outputs: Vec::new(),
         };
-        made.restore(restored.log, restored.header)?;
-        made.intake.submit(&restored.carried);
+        let Restored { log, header, settled, carried } = restored;
+        made.core.core.desk().settle(&settled)?;
+        made.restore(log, header)?;
+        made.intake.submit(made.core.core.desk(), &carried)?;
         Ok(made)
     }
 
@@ -213,13 +214,16 @@ impl<C: Core> Engine<C> {
         let mut delivered = Vec::new();
         for event in records(log, header).filter_map(event_of) {
             match event {
-                Event::Arrived(txs) => self.intake.restore(txs),
+                Event::Arrived(txs) => self.intake.restore(self.core.core.desk(), &txs)?,
                 Event::Delivered(it) => delivered.push(it),
                 Event::Tick(_) => {}
             }
         }
         // What has arrived is no longer to be let in where a block names it.
-        delivered.iter().for_each(|it| self.restore_block(it));
+        for it in &delivered {
+            self.restore_block(it)?;
+        }
+        self.intake.restored(self.core.core.desk())?;
         if self.finals.taken > 0 {
             self.finals.view = self.core.view;
             self.shown.made_final(self.core.commit);
@@ -227,13 +231,14 @@ impl<C: Core> Engine<C> {
         Ok(())
     }
 
-    fn restore_block(&mut self, it: &Delivered) {
+    fn restore_block(&mut self, it: &Delivered) -> Result<(), Error> {
         self.shown.store(wire::block_views(&it.data));
-        self.intake.name(&wire::fresh_lists(&it.data));
+        self.intake.restore_block(self.core.core.desk(), &it.data)?;
         let block = wire::given_block(&it.data);
         if wire::given_view(&it.data).is_some() && !self.given.is_stored(block) {
             self.given.store(it.from, block);
         }
+        Ok(())
     }
 
     /// What is to be done since the last call, in this order.
@@ -258,16 +263,17 @@ impl<C: Core> Engine<C> {
         self.outputs.push(output);
     }
 
-    pub(crate) fn run_timers(&mut self, now: Time) {
+    pub(crate) fn run_timers(&mut self, now: Time) -> Result<(), Error> {
         if is_due(&mut self.timers.pace, PACE_EVERY, now) {
-            self.keep_pace(now);
+            self.keep_pace(now)?;
         }
         if is_due(&mut self.timers.announce, ANNOUNCE_EVERY, now) {
-            self.announce(now);
+            self.announce(now)?;
         }
         if is_due(&mut self.timers.gossip, GOSSIP_EVERY, now) {
-            self.gossip(now);
+            self.gossip(now)?;
         }
+        Ok(())
     }
 
     // ---- pace
@@ -295,9 +301,9 @@ impl<C: Core> Engine<C> {
     }
 
     /// Opens the intake, releases a proposal, and asks for a view, where that is due.
-    fn keep_pace(&mut self, now: Time) {
+    fn keep_pace(&mut self, now: Time) -> Result<(), Error> {
         if !self.intake.is_open() && now.since(self.started_at) > OPEN_AFTER {
-            self.intake.open();
+            self.intake.open(self.core.core.desk())?;
         }
         self.release(now);
         let is_wanted = self.is_wanted(now) && self.hold.is_empty();
@@ -306,6 +312,7 @@ impl<C: Core> Engine<C> {
             self.turns.tick = Some((self.core.view, floor));
             self.counters.ticks += 1;
         }
+        Ok(())
     }
 
     pub(crate) fn release(&mut self, now: Time) {
@@ -346,19 +353,20 @@ impl<C: Core> Engine<C> {
 
     // ---- what is final
 
-    /// Takes what became final.
+    /// Takes what became final. The library hears of all of it together: batches are many and small.
     pub(crate) fn take_batches(&mut self) -> Result<(), Error> {
+        let mut all = Vec::new();
         for position in self.finals.taken..self.core.core.batch_count()? {
             let txs = self.core.core.batch(position)?;
-            self.intake.finalised(&txs);
             let mut data = self.finals.digest.to_vec();
             for it in &txs {
                 tx::put(it, &mut data);
             }
             self.finals.digest = Sha256::digest(&data).into();
             self.finals.taken += 1;
+            all.extend_from_slice(&txs);
             self.put(Output::Batch { position, txs });
         }
-        Ok(())
+        self.intake.finalised(self.core.core.desk(), &all)
     }
 }

@@ -18,7 +18,7 @@ impl<C: Core> Engine<C> {
     ) -> Result<(), Error> {
         let (old_view, old_commit) = (self.core.view, self.core.commit);
         if reason == Reason::Done && self.core.look()? {
-            self.chain_changed();
+            self.intake.chain_changed();
         }
         let has_committed = self.core.commit != old_commit;
         let makes_final = has_committed && self.core.core.batch_count()? > self.finals.taken;
@@ -34,7 +34,7 @@ impl<C: Core> Engine<C> {
             sends.iter().filter_map(|it| wire::fetched_digest(&it.bytes)).collect();
         self.send_turn(sends, makes_final, now);
         if let Event::Delivered(it) = event {
-            self.follow_message(it, reason, fetched, now);
+            self.follow_message(it, reason, fetched, now)?;
             if self.core.view != old_view {
                 self.pacemaker.view_changed(now);
             }
@@ -47,7 +47,7 @@ impl<C: Core> Engine<C> {
             self.take_batches()?;
         }
         if (self.core.view, self.core.commit) != (old_view, old_commit) {
-            self.report(now);
+            self.report(now)?;
         }
         Ok(())
     }
@@ -70,19 +70,12 @@ impl<C: Core> Engine<C> {
         reason: Reason,
         fetched: Vec<[u8; 32]>,
         now: Time,
-    ) {
+    ) -> Result<(), Error> {
         let kind = wire::kind_of(&it.data);
-        let was_foreseen = self.turns.has_foreseen(it);
         if reason == Reason::Done {
-            self.follow_accepted(it, kind, now);
+            self.follow_accepted(it, kind, now)?;
         } else if reason == Reason::Orphan {
             self.follow_orphan(it, kind, fetched, now);
-        }
-        if let (true, Some(views)) = (was_foreseen, wire::block_views(&it.data)) {
-            // A block that is repeated is stored, so what it proposes stays expected.
-            if !matches!(reason, Reason::Done | Reason::Repeat) {
-                self.intake.block_refused(views.view);
-            }
         }
         if let Some(view) = wire::given_view(&it.data) {
             self.follow_give(it, view, reason);
@@ -90,21 +83,27 @@ impl<C: Core> Engine<C> {
         if it.from != self.place.me && reason != Reason::Done {
             self.follow_refused(it.from, kind, reason, now);
         }
+        Ok(())
     }
 
-    fn follow_accepted(&mut self, it: &Delivered, kind: Option<Kind>, now: Time) {
+    fn follow_accepted(
+        &mut self,
+        it: &Delivered,
+        kind: Option<Kind>,
+        now: Time,
+    ) -> Result<(), Error> {
         if !matches!(kind, Some(Kind::Order | Kind::Vote | Kind::Fetch)) {
-            self.chain_changed();
+            self.intake.chain_changed();
         }
-        let Some(views) = wire::block_views(&it.data) else { return };
-        let lists = wire::fresh_lists(&it.data);
+        let Some(views) = wire::block_views(&it.data) else { return Ok(()) };
         self.shown.store(Some(views));
         if kind == Some(Kind::Propose) {
             self.hold.proposed(now);
         }
-        self.intake.block_accepted(views, lists);
+        self.intake.block_accepted(self.core.core.desk(), &it.data)?;
         let due = self.orphans.take(views.view);
         self.turns.retry.extend(due);
+        Ok(())
     }
 
     /// A message needs a block that is missing.
@@ -151,10 +150,5 @@ impl<C: Core> Engine<C> {
         if is_fault(reason) {
             self.counters.peers[from as usize].refused += 1;
         }
-    }
-
-    fn chain_changed(&mut self) {
-        self.core.forget_proposed();
-        self.intake.chain_changed();
     }
 }

@@ -3,7 +3,7 @@
 use std::fmt;
 
 use bytes::Bytes;
-use themis::Tx;
+pub use themis::Receipt;
 
 use crate::tx::{self, TX_BYTES};
 
@@ -46,15 +46,6 @@ pub enum Frame {
         /// Transactions (16 each) with their stamps (8 each).
         receipts: Vec<Receipt>,
     },
-}
-
-/// A transaction that a replica received, and its stamp.
-#[derive(Clone, Copy, Debug, PartialEq, Eq)]
-pub struct Receipt {
-    /// The transaction.
-    pub tx: Tx,
-    /// The replica's clock at the receipt.
-    pub stamp: u64,
 }
 
 /// Where a replica says that it stands.
@@ -175,6 +166,7 @@ fn encoded(kind: u8, payload: &[u8]) -> Bytes {
 #[cfg(test)]
 mod tests {
     use super::*;
+    use themis::Tx;
 
     #[test]
     fn frames_go_both_ways() {

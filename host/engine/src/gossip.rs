@@ -2,9 +2,10 @@
 //! received.
 
 use bytes::Bytes;
+use themis::Error;
 
 use crate::catch_up::Behind;
-use crate::core::Core;
+use crate::core::{Core, Desk};
 use crate::engine::{Engine, Output, ANNOUNCE_EVERY};
 use crate::frame::{Frame, MAX_RECEIPTS};
 use crate::time::Time;
@@ -46,32 +47,34 @@ impl Told {
 impl<C: Core> Engine<C> {
     /// Reports where this replica stands, now that this has changed. At a bounded rate: what changes
     /// soon after is reported a moment later.
-    pub(crate) fn report(&mut self, now: Time) {
+    pub(crate) fn report(&mut self, now: Time) -> Result<(), Error> {
         self.is_report_due = true;
         if now.since(self.reported_at) >= ANNOUNCE_EVERY {
-            self.announce(now);
+            self.announce(now)?;
         }
+        Ok(())
     }
 
     /// Reports where this replica stands, if that has changed, and tells its receipts.
-    pub(crate) fn announce(&mut self, now: Time) {
+    pub(crate) fn announce(&mut self, now: Time) -> Result<(), Error> {
         self.reported_at = now;
         if std::mem::take(&mut self.is_report_due) {
             self.send_status();
         }
         if now.since(self.told.at) >= ANNOUNCE_EVERY {
             self.told.at = now;
-            self.tell();
+            self.tell()?;
         }
+        Ok(())
     }
 
     /// Reports where this replica stands, tells the oldest receipts again, and asks for blocks where
     /// it is behind.
-    pub(crate) fn gossip(&mut self, now: Time) {
+    pub(crate) fn gossip(&mut self, now: Time) -> Result<(), Error> {
         self.send_status();
         if now.since(self.told.again_at) >= self.options.share_after {
             self.told.again_at = now;
-            self.tell_again();
+            self.tell_again()?;
         }
         let behind = Behind {
             commit: self.core.commit,
@@ -82,6 +85,7 @@ impl<C: Core> Engine<C> {
         let inbox = &self.inbox;
         let request = self.catch_up.step(&behind, |peer| inbox.has_of(peer), now);
         self.request_blocks(request.as_ref());
+        Ok(())
     }
 
     fn send_status(&mut self) {
@@ -91,13 +95,19 @@ impl<C: Core> Engine<C> {
 
     /// Tells each peer the receipts that it was not told of on this connection, in order; on a new
     /// one the clock alone, where nothing was received. Mostly all are told the same.
-    fn tell(&mut self) {
+    fn tell(&mut self) -> Result<(), Error> {
+        let clock = self.core.core.desk().clock()?;
         let mut made: Option<Part> = None;
         for peer in self.place.others() {
             let after = self.told.last[peer as usize];
             let is_new = self.told.new >> peer & 1 == 1;
-            let part = made.take().filter(|it| it.after == after);
-            let part = part.unwrap_or_else(|| self.part_after(after));
+            if !is_new && after >= clock {
+                continue; // no receipt is later than the clock
+            }
+            let part = match made.take().filter(|it| it.after == after) {
+                Some(part) => part,
+                None => self.part_after(after, clock)?,
+            };
             if is_new || part.last > after {
                 self.told.last[peer as usize] = part.last;
                 self.told.new &= !(1 << peer);
@@ -105,21 +115,23 @@ impl<C: Core> Engine<C> {
             }
             made = Some(part);
         }
+        Ok(())
     }
 
-    fn part_after(&self, after: u64) -> Part {
-        let receipts = self.intake.receipts_after(after, MAX_RECEIPTS);
+    fn part_after(&mut self, after: u64, clock: u64) -> Result<Part, Error> {
+        let receipts = self.core.core.desk().receipts(after, MAX_RECEIPTS)?;
         let last = receipts.last().map_or(after, |it| it.stamp);
-        let frame = Frame::Receipts { clock: self.intake.clock(), receipts }.encode();
-        Part { after, last, frame }
+        let frame = Frame::Receipts { clock, receipts }.encode();
+        Ok(Part { after, last, frame })
     }
 
     /// Tells the oldest receipts again: a frame may be lost, and a peer may have had no room.
-    fn tell_again(&mut self) {
-        let receipts = self.intake.receipts_after(0, MAX_AGAIN);
+    fn tell_again(&mut self) -> Result<(), Error> {
+        let receipts = self.core.core.desk().receipts(0, MAX_AGAIN)?;
         if !receipts.is_empty() {
-            let clock = self.intake.clock();
+            let clock = self.core.core.desk().clock()?;
             self.put(Output::Broadcast(Frame::Receipts { clock, receipts }.encode()));
         }
+        Ok(())
     }
 }

@@ -37,6 +37,7 @@ pub mod tx;
 pub mod wire;
 
 pub use clients::{Answer, Ticket};
+pub use counters::Count;
 pub use engine::{Engine, Input, Output, Restored};
 pub use intake::Note;
 pub use status::{Sizes, Status};

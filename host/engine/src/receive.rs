@@ -1,10 +1,10 @@
 //! What peers and clients bring, past the guards.
 
 use bytes::Bytes;
-use themis::{Error, Tx};
+use themis::{Error, Standing, Tx};
 
 use crate::clients::{Answer, Ticket};
-use crate::core::Core;
+use crate::core::{Core, Desk};
 use crate::engine::{Engine, Input, Output, MAX_BLOCKS};
 use crate::frame::Frame;
 use crate::time::Time;
@@ -16,7 +16,7 @@ impl<C: Core> Engine<C> {
         match input {
             Input::Frame { peer, frame, room } => self.hear(peer, frame, room, now)?,
             Input::Connected(peer) => self.told.connected(peer),
-            Input::Submit { ticket, txs } => self.submit(ticket, txs),
+            Input::Submit { ticket, txs } => self.submit(ticket, txs)?,
             Input::Gone(ticket) => self.clients.remove(ticket),
             Input::Close => self.is_closing = true,
         }
@@ -56,7 +56,7 @@ impl<C: Core> Engine<C> {
             }
             Frame::Receipts { clock, receipts } => {
                 if self.allowances[at].takes_receipts(receipts.len(), now) {
-                    self.intake.hear(peer, receipts, clock);
+                    self.intake.hear(self.core.core.desk(), peer, receipts, clock)?;
                 } else {
                     self.counters.peers[at].receipts_dropped += 1;
                 }
@@ -128,7 +128,7 @@ impl<C: Core> Engine<C> {
 
     // ---- clients
 
-    fn submit(&mut self, ticket: Ticket, txs: Vec<Tx>) {
+    fn submit(&mut self, ticket: Ticket, txs: Vec<Tx>) -> Result<(), Error> {
         let refused = if self.is_closing {
             Some(Answer::Closed)
         } else if self.is_over() {
@@ -141,21 +141,27 @@ impl<C: Core> Engine<C> {
         if let Some(answer) = refused {
             self.put(Output::Answer(ticket, answer));
         } else {
-            let new = self.intake.submit(&txs);
+            let new = self.intake.submit(self.core.core.desk(), &txs)?;
             self.clients.put(ticket, txs, new);
         }
+        Ok(())
     }
 
     /// Clients hear `ok` once all their transactions are durable here, or final. Call it while no
-    /// record waits to be durable.
-    pub(crate) fn answer_clients(&mut self) {
+    /// record waits to be durable: what has arrived is durable then.
+    pub(crate) fn answer_clients(&mut self) -> Result<(), Error> {
         if self.clients.len() == 0 {
-            return;
+            return Ok(());
         }
         let is_over = self.is_over();
-        let answers = self.clients.take(is_over, |tx| self.intake.is_safe(tx));
-        for (ticket, answer) in answers {
+        let desk = self.core.core.desk();
+        let is_safe = |tx: &Tx| {
+            let standing = desk.standing(tx)?;
+            Ok(matches!(standing, Standing::Arrived | Standing::Final))
+        };
+        for (ticket, answer) in self.clients.take(is_over, is_safe)? {
             self.put(Output::Answer(ticket, answer));
         }
+        Ok(())
     }
 }

@@ -56,8 +56,6 @@ pub struct Options {
     pub max_waiting: usize,
     /// An Ask waits until f+1 replicas are in its view.
     pub hold_asks: bool,
-    /// Arrivals go by keys; without it a burst can stop a session.
-    pub use_keys: bool,
     /// For tests: what was received and heard is put out.
     pub log_receipts: bool,
     /// Blocks a second that a peer may ask for.
@@ -101,7 +99,6 @@ impl Default for Options {
             share_after: Duration::from_millis(500),
             max_waiting: 16_000,
             hold_asks: true,
-            use_keys: true,
             log_receipts: false,
             fetch_rate: 100.0,
             pace: PaceOptions::default(),

@@ -1,6 +1,7 @@
 //! Where a replica stands, for operators and tests.
 
 use crate::core::Core;
+use crate::counters::Count;
 use crate::engine::Engine;
 use crate::time::Time;
 
@@ -31,8 +32,8 @@ pub struct Status {
     pub is_over: bool,
     /// No more transactions are taken.
     pub is_closing: bool,
-    /// Counts with their names.
-    pub counts: Vec<(String, u64)>,
+    /// Counts, also those that are 0.
+    pub counts: Vec<Count>,
 }
 
 /// How much an engine holds in what is bounded.
@@ -66,7 +67,7 @@ impl<C: Core> Engine<C> {
             heard: self.peers.count_heard(now),
             is_over: self.is_over(),
             is_closing: self.is_closing,
-            counts: self.counters.fields(),
+            counts: self.counters.all(),
         }
     }
 

@@ -49,30 +49,17 @@ pub(crate) struct Turns {
     is_pending: bool,
     /// Their records are durable.
     released: VecDeque<Event>,
-    /// Proposals that the intake has taken before their turns, as the core will accept them.
-    foreseen: Vec<Delivered>,
-}
-
-impl Turns {
-    /// Whether the intake has taken a message before its turn. It is asked once, after the turn.
-    pub fn has_foreseen(&mut self, it: &Delivered) -> bool {
-        let at = self.foreseen.iter().position(|one| one == it);
-        at.is_some_and(|at| {
-            self.foreseen.swap_remove(at);
-            true
-        })
-    }
 }
 
 impl<C: Core> Engine<C> {
     /// Prepares the next events. None where nothing waits, or where the turns on those before are
     /// not made. Call it after each input, after the turns, and at [`Engine::wake_at`].
     pub fn prepare(&mut self, now: Time) -> Result<Option<Pending>, Error> {
-        self.run_timers(now);
+        self.run_timers(now)?;
         if self.turns.is_pending || !self.turns.released.is_empty() {
             return Ok(None);
         }
-        self.answer_clients();
+        self.answer_clients()?;
         let events = self.gather(now)?;
         if events.is_empty() {
             return Ok(None);
@@ -89,7 +76,8 @@ impl<C: Core> Engine<C> {
     pub fn durable(&mut self, pending: Pending) {
         self.turns.is_pending = false;
         self.turns.released = pending.events;
-        self.answer_clients();
+        // Where the core fails, so it does at the next call, which says so.
+        let _ = self.answer_clients();
     }
 
     /// Makes the turn on the next event whose record is durable; false where there is none.
@@ -150,11 +138,8 @@ impl<C: Core> Engine<C> {
     fn foresee(&mut self, messages: &[Delivered]) -> Result<(), Error> {
         let is_proposal = |it: &&Delivered| wire::kind_of(&it.data) == Some(wire::Kind::Propose);
         for it in messages.iter().filter(is_proposal) {
-            let Some(views) = wire::block_views(&it.data) else { continue };
-            if self.core.core.would_change(it)?
-                && self.intake.block_accepted(views, wire::fresh_lists(&it.data))
-            {
-                self.turns.foreseen.push(it.clone());
+            if self.intake.is_open() && self.core.core.would_change(it)? {
+                self.intake.block_accepted(self.core.core.desk(), &it.data)?;
             }
         }
         Ok(())
@@ -172,7 +157,7 @@ impl<C: Core> Engine<C> {
             return Ok(Vec::new());
         }
         self.turns.looked_at = Some(now);
-        self.intake.arrivals(&mut self.core)
+        self.intake.arrivals(self.core.core.desk())
     }
 }
 

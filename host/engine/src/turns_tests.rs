@@ -3,6 +3,7 @@
 use super::*;
 use crate::engine::{Input, Output, Restored};
 use crate::frame::{Frame, Receipt, Standing};
+use crate::intake::played::{proposal_of, Call, PlayedDesk};
 use crate::setting::{Options, Place};
 use crate::tx;
 use themis::{Message, Reason};
@@ -13,9 +14,8 @@ struct Played {
     prepared: VecDeque<Event>,
     acted: Vec<Event>,
     refuses: Option<(Vec<u8>, Reason)>,
-    /// It says that what it refuses would change it.
-    is_wrong: bool,
     sends: Vec<Message>,
+    desk: PlayedDesk,
 }
 
 impl Played {
@@ -26,13 +26,19 @@ impl Played {
 }
 
 impl Core for Played {
+    type Desk = PlayedDesk;
+
+    fn desk(&mut self) -> &mut PlayedDesk {
+        &mut self.desk
+    }
+
     fn prepare(&mut self, event: &Event) -> Result<Vec<u8>, Error> {
         self.prepared.push_back(event.clone());
         Ok(vec![7])
     }
 
     fn would_change(&mut self, it: &Delivered) -> Result<bool, Error> {
-        Ok(self.is_wrong || self.refusal(it).is_none())
+        Ok(self.refusal(it).is_none())
     }
 
     fn act(&mut self) -> Result<Turn, Error> {
@@ -60,10 +66,6 @@ impl Core for Played {
 
     fn views(&mut self) -> Result<(u32, u32), Error> {
         Ok((1, 0))
-    }
-
-    fn is_proposed(&mut self, _: &Tx) -> Result<bool, Error> {
-        Ok(false)
     }
 
     fn give_count(&mut self, _: u32) -> Result<usize, Error> {
@@ -171,13 +173,19 @@ fn an_early_ask_waits_unless_the_guard_is_off() {
     }
 }
 
+/// A count by its name in the status.
+fn count_of(it: &Engine<Played>, name: &str) -> Option<u64> {
+    let counts = it.status(NOW).counts;
+    counts.iter().find(|one| one.to_string() == name).map(|one| one.value)
+}
+
 #[test]
 fn a_flood_of_statuses_is_dropped_and_counted() {
     let mut it = engine(Options::default());
     for _ in 0..1000 {
         hears(&mut it, 1, Frame::Status(Standing::default()));
     }
-    assert!(it.status(NOW).counts.contains(&("statuses dropped of 1".to_owned(), 900)));
+    assert_eq!(count_of(&it, "statuses dropped of 1"), Some(900));
     let freed = it.outputs();
     assert!(freed.contains(&Output::Freed(1, 1000)), "each slot is free again");
 }
@@ -197,8 +205,7 @@ fn refused_proposals_are_counted_and_slow_their_peer() {
         it.core_mut().acted.iter().filter(is_of).count()
     };
     assert_eq!((acted(&mut it, 1), acted(&mut it, 2)), (8, 64));
-    let counts = it.status(NOW).counts;
-    assert!(counts.contains(&("proposals refused of 1 for 9".to_owned(), 8)));
+    assert_eq!(count_of(&it, "proposals refused of 1 for 9"), Some(8));
     work(&mut it, NOW + Duration::from_secs(1));
     assert!((9..24).contains(&acted(&mut it, 1)), "it is slowed, and not shut out");
 }
@@ -207,19 +214,22 @@ fn burst() -> Vec<Tx> {
     (0..400).map(|number| Tx { client: 1, number, payload: 0 }).collect()
 }
 
-/// A replica in which 96 of a burst have arrived, which a proposal of a peer then proposes; how many
-/// have arrived right after that.
-fn arrived_after(refusal: Option<Reason>, is_wrong: bool) -> Engine<Played> {
+/// A proposal of view 6 that proposes the first of a burst.
+fn proposal() -> Bytes {
+    let txs = &burst()[..96];
+    proposal_of(6, &[txs; 4])
+}
+
+/// A replica in which 96 of a burst have arrived, which a proposal of a peer then proposes.
+fn arrived_after(refusal: Option<Reason>) -> Engine<Played> {
     let mut it = engine(Options::default());
     let receipts: Vec<_> = (1..).zip(burst()).map(|(stamp, tx)| Receipt { tx, stamp }).collect();
     for peer in 1..5 {
         hears(&mut it, peer, Frame::Receipts { clock: 400, receipts: receipts.clone() });
     }
     work(&mut it, NOW);
-    let proposal = proposal_of(&burst()[..96]);
-    it.core_mut().refuses = refusal.map(|it| (proposal.clone(), it));
-    it.core_mut().is_wrong = is_wrong;
-    hears(&mut it, 1, message(&proposal));
+    it.core_mut().refuses = refusal.map(|it| (proposal().to_vec(), it));
+    hears(&mut it, 1, message(&proposal()));
     work(&mut it, NOW);
     it
 }
@@ -229,13 +239,13 @@ fn arrived_after(refusal: Option<Reason>, is_wrong: bool) -> Engine<Played> {
 #[test]
 fn a_refused_proposal_lets_nothing_arrive() {
     let arrived = |it: &Engine<Played>| it.status(NOW).arrived;
-    assert_eq!(arrived(&arrived_after(Some(Reason::BadSeal), false)), 96);
-    assert_eq!(arrived(&arrived_after(None, false)), 192);
+    assert_eq!(arrived(&arrived_after(Some(Reason::BadSeal))), 96);
+    assert_eq!(arrived(&arrived_after(None)), 192);
 }
 
 #[test]
 fn what_a_proposal_proposes_makes_room_before_its_turn() {
-    let mut it = arrived_after(None, false);
+    let mut it = arrived_after(None);
     let acted = &it.core_mut().acted;
     let [.., Event::Arrived(second), Event::Delivered(_)] = &acted[..] else {
         panic!("{acted:?}");
@@ -244,19 +254,18 @@ fn what_a_proposal_proposes_makes_room_before_its_turn() {
 }
 
 #[test]
-fn what_is_refused_in_the_end_is_no_longer_expected() {
-    let mut it = arrived_after(Some(Reason::Unsafe), true);
-    assert_eq!(it.status(NOW).arrived, 192);
-    let proposal = proposal_of(&burst()[96..192]);
-    it.core_mut().refuses = Some((proposal.clone(), Reason::OldView));
-    it.core_mut().is_wrong = false;
-    // Another proposal of the view is refused, and says nothing of the one that counts.
-    hears(&mut it, 2, message(&proposal));
+fn what_was_final_in_earlier_sessions_is_not_taken_again() {
+    let (place, txs) = (Place { me: 0, n: 5, f: 1, views: 100 }, burst());
+    let (settled, carried) = (txs[..3].to_vec(), txs[..4].to_vec());
+    let restored = Restored { settled, carried, ..Restored::default() };
+    let played = Played::default();
+    let mut it = Engine::open(place, Options::default(), played, restored, NOW).unwrap();
+    opened(&mut it);
+    let calls = &it.core_mut().desk.calls;
+    assert_eq!(calls.first(), Some(&Call::Settle(3)));
+    assert_eq!(calls.last(), Some(&Call::Submit(txs[3])));
     work(&mut it, NOW);
-    it.core_mut().refuses = None;
-    hears(&mut it, 1, message(&proposal));
-    work(&mut it, NOW);
-    assert_eq!(it.status(NOW).arrived, 192, "the first 96 still wait");
+    assert_eq!(it.status(NOW).arrived, 1);
 }
 
 #[test]
@@ -300,19 +309,4 @@ fn receipts_are_stamped_a_second_after_a_start_at_the_latest() {
     assert_eq!(it.status(NOW).arrived, 0);
     work(&mut it, NOW + Duration::from_millis(1011));
     assert_eq!(it.status(NOW).arrived, 3);
-}
-
-/// The start of a proposal of view 6, as far as a host reads it, whose four lists are these.
-fn proposal_of(txs: &[Tx]) -> Vec<u8> {
-    let mut out = vec![2, 4, 1, 0, 0, 0, 6, 0, 0, 0, 5];
-    out.extend([0; 32]);
-    out.extend([0, 4]); // no votes, four orders
-    for replica in 0..4 {
-        out.extend([3, replica, 0, 0, 0, 6]);
-        out.extend([0; 32]);
-        out.extend((txs.len() as u16).to_be_bytes());
-        txs.iter().for_each(|it| tx::put(it, &mut out));
-        out.extend([0, 0, 0, 0]);
-    }
-    out
 }

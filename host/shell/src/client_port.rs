@@ -5,7 +5,8 @@
 //!     status              one line of JSON
 //!     close               takes no more transactions; answers ok
 //!
-//! A transaction is client.number.payload.
+//! A transaction is client.number.payload. The port also answers `GET /metrics` and `GET /health` of
+//! HTTP/1.1 ([`crate::http`]).
 
 use std::future::Future;
 use std::io;
@@ -22,6 +23,7 @@ use tokio::sync::{oneshot, Semaphore};
 use tokio::time::{sleep, timeout};
 
 use crate::batches::Batches;
+use crate::http::{answer_to, path_of};
 use crate::input::{Inbox, Request};
 
 const MAX_LINE: usize = 1 << 16;
@@ -34,6 +36,11 @@ const IDLE_AFTER: Duration = Duration::from_secs(600);
 /// A client whose machine has gone is noticed by TCP.
 const KEEPALIVE_AFTER: Duration = Duration::from_secs(60);
 const RETRY_AFTER: Duration = Duration::from_millis(500);
+/// Of a request of HTTP.
+const MAX_HEAD_LINES: usize = 100;
+const HEAD_WITHIN: Duration = Duration::from_secs(10);
+/// An engine that is slower is not healthy.
+const ANSWER_WITHIN: Duration = Duration::from_secs(5);
 
 type Reader = BufReader<OwnedReadHalf>;
 
@@ -90,6 +97,9 @@ impl ClientPort {
             }
             let text = String::from_utf8_lossy(&line);
             let words: Vec<&str> = text.split_ascii_whitespace().collect();
+            if let Some(path) = path_of(&words) {
+                return self.serve_page(path, &mut reader, &mut writer).await;
+            }
             let answer = match words[..] {
                 ["submit", ref texts @ ..] => self.submit(texts, &mut reader).await?,
                 ["follow", position] if position.bytes().all(|it| it.is_ascii_digit()) => {
@@ -145,6 +155,18 @@ impl ClientPort {
         })
     }
 
+    /// Answers a request of HTTP, once its head has come.
+    async fn serve_page(
+        &self,
+        path: &str,
+        reader: &mut Reader,
+        writer: &mut OwnedWriteHalf,
+    ) -> io::Result<()> {
+        within(HEAD_WITHIN, skip_head(reader)).await?;
+        let pages = within(ANSWER_WITHIN, self.ask(Request::Pages)).await.ok();
+        write(writer, answer_to(path, pages.as_ref()).as_bytes()).await
+    }
+
     /// Writes batches to a client that has nothing more to say, until it closes.
     async fn follow(
         &self,
@@ -191,6 +213,19 @@ async fn read_line(reader: &mut Reader, line: &mut Vec<u8>) -> io::Result<()> {
     }
 }
 
+/// Reads the rest of a request's head: a few lines, up to an empty one.
+async fn skip_head(reader: &mut Reader) -> io::Result<()> {
+    let mut line = Vec::new();
+    for _ in 0..MAX_HEAD_LINES {
+        line.clear();
+        read_line(reader, &mut line).await?;
+        if line.trim_ascii().is_empty() {
+            return Ok(());
+        }
+    }
+    Err(io::ErrorKind::InvalidData.into())
+}
+
 /// Returns once the other side has closed, unless it has sent more before.
 async fn closed(reader: &mut Reader) {
     let is_open = matches!(reader.fill_buf().await, Ok(data) if !data.is_empty());
@@ -207,5 +242,45 @@ async fn drained(reader: &mut Reader) {
             return;
         }
         reader.consume(size);
+    }
+}
+
+#[cfg(test)]
+mod tests {
+    use super::*;
+    use crate::input::Pages;
+
+    /// What a port answers to some bytes, until it closes. Its engine has the pages of a healthy
+    /// replica.
+    async fn answer(data: &[u8]) -> String {
+        let (inbox, receiver) = Inbox::new();
+        std::thread::spawn(move || {
+            for request in receiver {
+                if let Request::Pages(answer) = request {
+                    let _ =
+                        answer.send(Pages { metrics: "themis_view 7\n".to_owned(), fault: None });
+                }
+            }
+        });
+        let port = ClientPort::new(inbox, Arc::new(Batches::new()), false);
+        let listener = TcpListener::bind("127.0.0.1:0").await.unwrap();
+        let at = listener.local_addr().unwrap();
+        tokio::spawn(port.run(listener));
+        let mut client = TcpStream::connect(at).await.unwrap();
+        client.write_all(data).await.unwrap();
+        let mut out = String::new();
+        client.read_to_string(&mut out).await.unwrap();
+        out
+    }
+
+    #[tokio::test(flavor = "current_thread")]
+    async fn pages_over_http() {
+        let health = answer(b"GET /health HTTP/1.1\r\nHost: any\r\n\r\n").await;
+        assert!(health.starts_with("HTTP/1.1 200 OK\r\n") && health.ends_with("\r\n\r\nok\n"));
+        let metrics = answer(b"GET /metrics HTTP/1.1\r\nHost: any\r\n\r\n").await;
+        assert!(metrics.ends_with("\r\n\r\nthemis_view 7\n"));
+        // After a command too, and commands are answered as before.
+        let both = answer(b"any\nGET / HTTP/1.1\r\n\r\n").await;
+        assert!(both.starts_with("bad no such command\nHTTP/1.1 404 "));
     }
 }

@@ -1,7 +1,6 @@
 //! Configurations, in TOML: one file that all replicas share, and one for each replica, as
 //! `service.cluster make` writes them. Paths are relative to the file that names them.
 
-use std::collections::HashSet;
 use std::net::SocketAddr;
 use std::os::unix::fs::PermissionsExt;
 use std::path::{Path, PathBuf};
@@ -122,7 +121,7 @@ impl Default for Config {
             share_after: options.share_after,
             max_waiting: options.max_waiting,
             hold_asks: options.hold_asks,
-            use_keys: options.use_keys,
+            use_keys: true,
             fetch_rate: options.fetch_rate,
             view_floor: options.pace.floor,
             idle_view_floor: options.pace.idle_floor,
@@ -169,6 +168,9 @@ impl Setup {
         if !config.deeds.is_empty() {
             return Err(bad(path, "this host has no deeds: run that replica in Python"));
         }
+        if !config.use_keys {
+            return Err(bad(path, "arrivals go by keys here: the library decides"));
+        }
         cluster.check().map_err(|it| bad(&shared, it))?;
         let addresses = |texts: &[String]| {
             let parsed = texts.iter().map(|it| it.parse().map_err(|_| it.clone()));
@@ -210,7 +212,6 @@ impl Setup {
             share_after: it.share_after,
             max_waiting: it.max_waiting,
             hold_asks: it.hold_asks,
-            use_keys: it.use_keys,
             log_receipts: it.log_receipts,
             fetch_rate: it.fetch_rate,
             pace,
@@ -279,8 +280,8 @@ impl Setup {
     }
 
     /// What was final in an earlier session.
-    pub fn settled_before(&self) -> Result<HashSet<Tx>, Failure> {
-        Ok(self.txs(&self.config.settled)?.into_iter().collect())
+    pub fn settled_before(&self) -> Result<Vec<Tx>, Failure> {
+        self.txs(&self.config.settled)
     }
 
     /// The transactions of a file, which the first session does not have.

@@ -38,6 +38,8 @@ pub enum Request {
     Gone(Ticket),
     /// Asks for the status, a line of JSON.
     Status(oneshot::Sender<String>),
+    /// Asks for the pages of HTTP.
+    Pages(oneshot::Sender<Pages>),
     /// Takes no more transactions.
     Close(oneshot::Sender<()>),
     /// A fault that a test orders; whether there is such a one.
@@ -49,6 +51,14 @@ pub enum Request {
     },
     /// Ends the thread.
     Stop,
+}
+
+/// What the replica tells over HTTP.
+pub struct Pages {
+    /// The page for Prometheus.
+    pub metrics: String,
+    /// Why the replica is not healthy, if it is not.
+    pub fault: Option<&'static str>,
 }
 
 /// The inbox of the engine's thread. What peers put in is bounded by their slots, and what clients

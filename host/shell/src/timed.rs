@@ -2,8 +2,8 @@
 
 use std::time::{Duration, Instant};
 
-use themis::{Error, Message, Replica};
-use themis_engine::core::{Core, Delivered, Event, Turn};
+use themis::{Arrivals, Error, Held, Message, Receipt, Replica, Standing, Taken};
+use themis_engine::core::{Core, Delivered, Desk, Event, Turn};
 use themis_engine::tx::Tx;
 
 /// How often something was done, and how long that took.
@@ -39,7 +39,8 @@ pub struct Timed {
     turn: Spent,
     sends: Spent,
     batches: Spent,
-    proposed: Spent,
+    receive: Spent,
+    arrive: Spent,
     gives: Spent,
 }
 
@@ -54,26 +55,34 @@ impl Timed {
             turn: none,
             sends: none,
             batches: none,
-            proposed: none,
+            receive: none,
+            arrive: none,
             gives: none,
         }
     }
 
     /// The times, with their names in the status.
-    pub fn all(&self) -> [(&'static str, Spent); 7] {
+    pub fn all(&self) -> [(&'static str, Spent); 8] {
         [
             ("prepare", self.prepare),
             ("foresee", self.foresee),
             ("turn", self.turn),
             ("sends", self.sends),
             ("batches", self.batches),
-            ("proposed", self.proposed),
+            ("receive", self.receive),
+            ("arrive", self.arrive),
             ("gives", self.gives),
         ]
     }
 }
 
 impl Core for Timed {
+    type Desk = Timed;
+
+    fn desk(&mut self) -> &mut Timed {
+        self
+    }
+
     fn prepare(&mut self, event: &Event) -> Result<Vec<u8>, Error> {
         self.prepare.time(|| self.replica.prepare(event))
     }
@@ -102,15 +111,61 @@ impl Core for Timed {
         self.replica.views()
     }
 
-    fn is_proposed(&mut self, tx: &Tx) -> Result<bool, Error> {
-        self.proposed.time(|| self.replica.is_proposed(tx))
-    }
-
     fn give_count(&mut self, above: u32) -> Result<usize, Error> {
         self.gives.time(|| self.replica.give_count(above))
     }
 
     fn give(&mut self, above: u32, at: usize) -> Result<Vec<u8>, Error> {
         self.gives.time(|| self.replica.give(above, at))
+    }
+}
+
+impl Desk for Timed {
+    fn submit(&mut self, tx: &Tx) -> Result<Taken, Error> {
+        self.receive.time(|| self.replica.submit(tx))
+    }
+
+    fn hear(&mut self, peer: u32, receipt: &Receipt) -> Result<Taken, Error> {
+        self.receive.time(|| self.replica.hear(peer, receipt))
+    }
+
+    fn hear_clock(&mut self, peer: u32, clock: u64) -> Result<(), Error> {
+        self.replica.hear_clock(peer, clock)
+    }
+
+    fn restore(&mut self, tx: &Tx) -> Result<Taken, Error> {
+        self.receive.time(|| self.replica.restore(tx))
+    }
+
+    fn settle(&mut self, txs: &[Tx]) -> Result<(), Error> {
+        self.arrive.time(|| self.replica.settle(txs))
+    }
+
+    fn accepted(&mut self, block: &[u8]) -> Result<bool, Error> {
+        self.arrive.time(|| self.replica.accepted(block))
+    }
+
+    fn arrive(&mut self) -> Result<Arrivals, Error> {
+        self.arrive.time(|| self.replica.arrive())
+    }
+
+    fn arrive_proposed(&mut self) -> Result<Vec<Tx>, Error> {
+        self.arrive.time(|| self.replica.arrive_proposed())
+    }
+
+    fn receipts(&mut self, after: u64, most: usize) -> Result<Vec<Receipt>, Error> {
+        self.receive.time(|| self.replica.receipts(after, most))
+    }
+
+    fn standing(&mut self, tx: &Tx) -> Result<Standing, Error> {
+        self.replica.standing(tx)
+    }
+
+    fn clock(&mut self) -> Result<u64, Error> {
+        self.replica.clock()
+    }
+
+    fn held(&mut self) -> Result<Held, Error> {
+        self.arrive.time(|| self.replica.held())
     }
 }

@@ -13,9 +13,10 @@ use tokio::sync::{oneshot, Semaphore};
 use crate::batches::Batches;
 use crate::config::{hex, Setup};
 use crate::exit::{Exit, Failure};
-use crate::input::Request;
+use crate::input::{Pages, Request};
 use crate::link::Link;
 use crate::log::{Disk, EventLog};
+use crate::metrics::{fault_of, page_of, Counted};
 use crate::receipt_log::ReceiptLog;
 use crate::timed::{Spent, Timed};
 
@@ -159,6 +160,9 @@ impl Worker {
                 // A client that has gone needs no answer; the same below.
                 let _ = answer.send(self.status(now));
             }
+            Request::Pages(answer) => {
+                let _ = answer.send(self.pages(now));
+            }
             Request::Close(answer) => {
                 self.engine.take(Input::Close, now)?;
                 let _ = answer.send(());
@@ -241,8 +245,8 @@ impl Worker {
         });
         let Value::Object(mut fields) = fields else { return String::new() };
         let mut put = |name: String, count: u64| fields.insert(name, Value::from(count));
-        for (name, count) in it.counts {
-            put(name, count);
+        for count in it.counts.iter().filter(|it| it.value > 0) {
+            put(count.to_string(), count.value);
         }
         for (name, spent) in self.engine.core_mut().all() {
             put(format!("{name}_us"), spent.micros());
@@ -252,6 +256,24 @@ impl Worker {
             put("frame faults".to_owned(), self.frame_faults);
         }
         Value::Object(Map::from_iter(fields)).to_string()
+    }
+
+    /// What Prometheus reads, and whether the replica is healthy.
+    fn pages(&mut self, now: Time) -> Pages {
+        let status = self.engine.status(now);
+        let links = self.shared.links.iter().flatten();
+        let counted = Counted {
+            replica: self.setup.me(),
+            session: self.setup.cluster.session,
+            last_view: self.setup.cluster.views,
+            quorum: self.setup.place().quorum(),
+            log_bytes: self.log.end,
+            frames_dropped: links.map(Link::dropped).sum(),
+            bad_frames: self.frame_faults,
+            syncs: self.syncs,
+            calls: self.engine.core_mut().all(),
+        };
+        Pages { metrics: page_of(&status, &counted), fault: fault_of(&status, counted.quorum) }
     }
 
     /// Makes the fault that a test orders; none where there is no such fault.

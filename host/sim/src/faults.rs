@@ -26,6 +26,12 @@ impl World {
                 self.links[peer as usize][replica as usize].cut(until);
             }
             FaultKind::OneWay(peer) => self.links[replica as usize][peer as usize].cut(until),
+            FaultKind::Alone => {
+                for peer in 0..self.plan.n as usize {
+                    self.links[replica as usize][peer].cut(until);
+                    self.links[peer][replica as usize].cut(until);
+                }
+            }
             FaultKind::Break(peer) => {
                 self.links[replica as usize][peer as usize].break_off(self.now, &mut self.rng);
                 self.connect(replica, peer);
@@ -46,6 +52,7 @@ impl World {
             | FaultKind::Rot(_)
             | FaultKind::Cut(_)
             | FaultKind::OneWay(_)
+            | FaultKind::Alone
             | FaultKind::Break(_) => {}
         }
         self.start(replica)

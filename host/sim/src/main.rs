@@ -3,8 +3,9 @@
 //! A seed determines a whole run: n engines over the real core in one thread, in virtual time, with
 //! a network and disks that fail, and in some runs a faulty replica. After each run it is checked
 //! that the honest replicas agree, that no transaction is final twice, that all is final once faults
-//! have stopped, that nothing passes what all received before, that no leaf sealed two statements, that what an engine holds is bounded, and, for
-//! some runs, that the proved audit finds nothing. A run that fails prints the line that repeats it.
+//! have stopped, that nothing passes what all received before, that no leaf sealed two statements,
+//! that what an engine holds is bounded, and, for some runs, that the proved audit finds nothing. A
+//! run that fails prints the line that repeats it.
 
 #![forbid(unsafe_code)]
 
@@ -28,6 +29,7 @@ mod tapped;
 mod trace;
 mod world;
 
+use std::ops::Range;
 use std::process::ExitCode;
 use std::sync::atomic::{AtomicU64, Ordering};
 use std::sync::Mutex;
@@ -49,6 +51,9 @@ struct Arguments {
     /// Runs at a time.
     #[arg(long, default_value_t = 1)]
     jobs: usize,
+    /// Starts no run after so many seconds; seeds that are left are not run.
+    #[arg(long)]
+    within: Option<u64>,
     /// The proved audit checks each run whose seed this divides; 0: none.
     #[arg(long, default_value_t = 10)]
     audit_every: u64,
@@ -79,6 +84,9 @@ struct Arguments {
     /// Submits that many more transactions at the start.
     #[arg(long, default_value_t = 0)]
     burst: u32,
+    /// Submits that many others to each replica alone at the start.
+    #[arg(long, default_value_t = 0)]
+    spread: u32,
 }
 
 /// What all runs came to.
@@ -103,19 +111,7 @@ fn main() -> ExitCode {
         return ExitCode::from(2);
     };
     let start = Instant::now();
-    let (next, total) = (AtomicU64::new(first), Mutex::new(Total::default()));
-    std::thread::scope(|scope| {
-        for _ in 0..given.jobs.max(1) {
-            scope.spawn(|| loop {
-                let seed = next.fetch_add(1, Ordering::Relaxed);
-                if seed >= end {
-                    return;
-                }
-                work(&given, seed, &total);
-            });
-        }
-    });
-    let total = total.into_inner().unwrap_or_default();
+    let total = run_all(&given, first..end, start);
     print_total(&total, start.elapsed());
     if let (true, Some(seed)) = (given.shrink, total.failed.iter().min()) {
         let mode = Mode { is_audited: true, is_traced: false };
@@ -131,6 +127,24 @@ fn main() -> ExitCode {
     }
 }
 
+/// Runs the seeds, some at a time.
+fn run_all(given: &Arguments, seeds: Range<u64>, start: Instant) -> Total {
+    let (next, total) = (AtomicU64::new(seeds.start), Mutex::new(Total::default()));
+    let is_late = || given.within.is_some_and(|it| start.elapsed() > Duration::from_secs(it));
+    std::thread::scope(|scope| {
+        for _ in 0..given.jobs.max(1) {
+            scope.spawn(|| loop {
+                let seed = next.fetch_add(1, Ordering::Relaxed);
+                if seed >= seeds.end || is_late() {
+                    return;
+                }
+                work(given, seed, &total);
+            });
+        }
+    });
+    total.into_inner().unwrap_or_default()
+}
+
 impl Arguments {
     fn edits(&self) -> Edits {
         Edits {
@@ -139,6 +153,7 @@ impl Arguments {
             txs: self.txs,
             deeds: self.deeds.clone(),
             burst: self.burst,
+            spread: self.spread,
         }
     }
 
@@ -171,6 +186,9 @@ fn line_of(seed: u64, edits: &Edits) -> String {
     }
     if edits.burst > 0 {
         out += &format!(" --burst {}", edits.burst);
+    }
+    if edits.spread > 0 {
+        out += &format!(" --spread {}", edits.spread);
     }
     if let Some(txs) = edits.txs {
         out += &format!(" --txs {txs}");
@@ -210,9 +228,9 @@ fn work(given: &Arguments, seed: u64, total: &Mutex<Total>) {
 
 fn print_run(plan: &Plan, report: &Report, took: Duration) {
     println!(
-        "seed {} n={} latency={:?} faults={} deeds={:?} views={} final={} common={} given={} jumps={} events={} time={:.1?} took={:.2?}",
+        "seed {} n={} latency={:?} faults={} deeds={:?} views={} final={} common={} given={} jumps={} events={} time={:.1?} late={:.1?} took={:.2?}",
         plan.seed, plan.n, plan.latency, plan.faults.len(), plan.deeds, report.views, report.finals,
-        report.common, report.given, report.jumps, report.happenings, report.took, took,
+        report.common, report.given, report.jumps, report.happenings, report.took, report.late, took,
     );
 }
 

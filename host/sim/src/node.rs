@@ -8,7 +8,7 @@ use std::time::Duration;
 
 use bytes::Bytes;
 use themis::{Error, Replica, Role};
-use themis_engine::core::{event_of, records, Core, Turn};
+use themis_engine::core::{event_of, records, Core, Event, Turn};
 use themis_engine::setting::{Options, Place};
 use themis_engine::tx::Tx;
 use themis_engine::{Engine, Pending, Restored, Time};
@@ -32,6 +32,15 @@ impl From<Error> for Violation {
     fn from(fault: Error) -> Violation {
         Violation(format!("the core fails: {fault}"))
     }
+}
+
+/// The transactions that arrive by the records of a log, from a byte on.
+fn arrivals(log: &[u8], from: usize) -> impl Iterator<Item = Tx> + '_ {
+    let events = records(log, from).filter_map(event_of);
+    events.flat_map(|it| match it {
+        Event::Arrived(txs) => txs,
+        Event::Delivered(_) | Event::Tick(_) => Vec::new(),
+    })
 }
 
 /// The header of a new log. To grow a key takes a moment, so each header is made once.
@@ -78,6 +87,8 @@ pub struct Node {
     pub batches: Vec<Vec<Tx>>,
     /// What is in them.
     pub finals: HashSet<Tx>,
+    /// What has arrived by the durable records of the log.
+    arrived: HashSet<Tx>,
     /// What it does if it is faulty.
     pub deeds: Option<Deeds>,
     /// What happens at its next write.
@@ -112,6 +123,7 @@ impl Node {
             journal: Rc::default(),
             batches: Vec::new(),
             finals: HashSet::new(),
+            arrived: HashSet::new(),
             deeds: (!deeds.is_empty()).then(|| Deeds::new(deeds, me, n, views, &secret(me))),
             armed: None,
             rot: None,
@@ -149,6 +161,7 @@ impl Node {
         self.disk.log.truncate(used);
         self.play_tail(acted)?;
         let header = replica.header()?.len();
+        self.arrived = arrivals(&self.disk.log, header).collect();
         let tapped = Tapped::new(replica, self.journal.clone());
         let second = if self.has_two_heads {
             Some(SecondHead::new(self.place.me, self.opened(&self.disk.log)?.0))
@@ -218,6 +231,22 @@ impl Node {
             }
         }
         None
+    }
+
+    /// The records that were being written are durable; whether there were any.
+    pub fn synced(&mut self) -> bool {
+        let Some(process) = &mut self.process else { return false };
+        let Some(pending) = process.pending.take() else { return false };
+        self.disk.append(pending.records());
+        self.arrived.extend(arrivals(pending.records(), 0));
+        process.engine.durable(pending);
+        true
+    }
+
+    /// A transaction of which a client may not be told that it is durable here.
+    pub fn unsafe_one(&self, txs: &[Tx]) -> Option<Tx> {
+        let is_safe = |it: &&Tx| self.arrived.contains(it) || self.finals.contains(it);
+        txs.iter().find(|it| !is_safe(it)).copied()
     }
 
     /// Takes a final batch, which an earlier process may have reported.

@@ -40,6 +40,8 @@ pub enum FaultKind {
     Cut(u32),
     /// Nothing goes to the peer.
     OneWay(u32),
+    /// Nothing goes to any peer or comes from one.
+    Alone,
     /// The connection to the peer ends, and with it what is on its way.
     Break(u32),
 }
@@ -76,6 +78,10 @@ pub enum Deed {
 }
 
 const BURST_CLIENT: u32 = 99;
+/// Submits to a replica that is alone.
+const LONE_CLIENT: u32 = 98;
+/// The clients of one replica each have numbers from here on.
+const OWN_CLIENTS: u32 = 100;
 
 /// Transactions that a client submits to all replicas, or to one.
 #[derive(Clone, Debug, PartialEq, Eq)]
@@ -126,6 +132,8 @@ pub struct Edits {
     pub deeds: Vec<Deed>,
     /// So many more transactions at the start, at all replicas.
     pub burst: u32,
+    /// So many others at each replica alone, at the start.
+    pub spread: u32,
 }
 
 impl Plan {
@@ -165,6 +173,11 @@ impl Plan {
         (0..self.n).filter(|it| self.is_honest(*it))
     }
 
+    /// Whether nothing is faulty.
+    pub fn is_calm(&self) -> bool {
+        self.faults.is_empty() && self.deeds.is_empty()
+    }
+
     fn draw_deeds(&mut self, rng: &mut ChaCha8Rng) {
         if rng.gen_ratio(2, 5) {
             let count = rng.gen_range(1..3);
@@ -176,7 +189,7 @@ impl Plan {
         for _ in 0..rng.gen_range(0..5) {
             let replica = rng.gen_range(0..self.n);
             let peer = (replica + rng.gen_range(1..self.n)) % self.n;
-            let kind = match rng.gen_range(0..11) {
+            let kind = match rng.gen_range(0..12) {
                 0 | 1 => FaultKind::Crash,
                 2 => FaultKind::Tear(rng.gen()),
                 3 => FaultKind::CrashAfterWrite,
@@ -185,6 +198,7 @@ impl Plan {
                 6 => FaultKind::Slow(rng.gen_range(10..300)),
                 7 => FaultKind::Cut(peer),
                 8 => FaultKind::OneWay(peer),
+                9 => FaultKind::Alone,
                 _ => FaultKind::Break(peer),
             };
             let is_long = rng.gen_ratio(1, 8);
@@ -209,7 +223,34 @@ impl Plan {
             let txs = txs.collect();
             self.submissions.push(Submission { at: rng.gen_range(0..self.span), txs, to });
         }
+        self.draw_lonely(rng);
+        if rng.gen_ratio(1, 20) {
+            self.spread(rng.gen_range(130..200));
+        }
         self.submissions.sort_by_key(|it| it.at);
+    }
+
+    /// A client submits to a replica while it is alone.
+    fn draw_lonely(&mut self, rng: &mut ChaCha8Rng) {
+        let mut number = 0;
+        for it in self.faults.iter().filter(|it| it.kind == FaultKind::Alone) {
+            let txs = (0..rng.gen_range(1..4)).map(|_| {
+                number += 1;
+                Tx { client: LONE_CLIENT, number, payload: self.seed }
+            });
+            let (at, txs, to) = (it.at + it.span / 2, txs.collect(), Some(it.replica));
+            self.submissions.push(Submission { at, txs, to });
+        }
+    }
+
+    /// Each replica alone is given so many transactions at the start: more than a local order draws.
+    fn spread(&mut self, count: u32) {
+        for replica in 0..self.n {
+            let client = OWN_CLIENTS + replica;
+            let made = |number| Tx { client, number, payload: self.seed };
+            let txs = (0..count).map(made).collect();
+            self.submissions.push(Submission { at: 1, txs, to: Some(replica) });
+        }
     }
 
     fn edit(&mut self, edits: &Edits) {
@@ -220,6 +261,9 @@ impl Plan {
             let made = |number| Tx { client: BURST_CLIENT, number, payload: self.seed };
             let txs = (0..edits.burst).map(made).collect();
             self.submissions.insert(0, Submission { at: 1, txs, to: None });
+        }
+        if edits.spread > 0 {
+            self.spread(edits.spread);
         }
         let mut at = 0..;
         self.faults.retain(|_| at.next().is_none_or(|it| !edits.drop.contains(&it)));

@@ -17,6 +17,8 @@ use crate::world::{at_ms, World};
 
 /// After faults have ended all has to be final within so long.
 const PATIENCE: Duration = Duration::from_secs(40);
+/// Where nothing is faulty. What makes a cluster slow is seen by it.
+const CALM_PATIENCE: Duration = Duration::from_secs(5);
 const TRACE_EVERY: Duration = Duration::from_millis(200);
 /// After all is final nothing more happens for so long.
 const IDLE: Duration = Duration::from_secs(3);
@@ -49,6 +51,8 @@ pub struct Report {
     pub happenings: u64,
     /// How long the run took in its own time.
     pub took: Duration,
+    /// How long after the last fault and submission all was final.
+    pub late: Duration,
     /// Entries of journals that the proved audit read.
     pub audited: usize,
 }
@@ -76,6 +80,7 @@ fn attempt(plan: &Plan, mode: Mode, report: &mut Report) -> Result<(), Violation
     let first = plan.honest().next().unwrap_or(0) as usize;
     report.happenings = world.queue.count();
     report.took = world.now.since(Time::default());
+    report.late = world.now.since(quiet_at(&world.plan));
     report.finals = world.nodes[first].finals.len();
     report.views =
         plan.honest().map(|it| views_of(&mut world.nodes[it as usize])).max().unwrap_or(0);
@@ -102,12 +107,18 @@ fn views_of(node: &mut Node) -> u32 {
     process.and_then(|it| it.engine.core_mut().ends().ok()).map_or(0, |(view, _)| view)
 }
 
+/// The moment from which on there are no faults and submissions.
+fn quiet_at(plan: &Plan) -> Time {
+    let faults = plan.faults.iter().map(|it| it.at + it.span);
+    at_ms(faults.max().unwrap_or(0).max(plan.span))
+}
+
 /// Lets things happen until all is final everywhere.
 fn play(world: &mut World, is_traced: bool) -> Result<(), Violation> {
     let mut traced_at = Time::default();
     let wanted = wanted(&world.plan);
-    let faults = world.plan.faults.iter().map(|it| it.at + it.span);
-    let quiet = at_ms(faults.max().unwrap_or(0).max(world.plan.span));
+    let quiet = quiet_at(&world.plan);
+    let patience = if world.plan.is_calm() { CALM_PATIENCE } else { PATIENCE };
     while world.step()? {
         if is_traced && world.now > traced_at + TRACE_EVERY {
             traced_at = world.now;
@@ -119,7 +130,7 @@ fn play(world: &mut World, is_traced: bool) -> Result<(), Violation> {
         if std::mem::take(&mut world.has_new) && is_level(world, &wanted) {
             return Ok(());
         }
-        if world.now > quiet + PATIENCE {
+        if world.now > quiet + patience {
             return Err(stuck(world, &wanted));
         }
     }
@@ -135,7 +146,8 @@ fn print_state(world: &World) {
             continue;
         };
         let it = process.engine.status(node.clock.local(world.now));
-        let counts: Vec<_> = it.counts.iter().map(|(name, n)| format!("{name}: {n}")).collect();
+        let counts = it.counts.iter().filter(|it| it.value > 0);
+        let counts: Vec<_> = counts.map(|it| format!("{it}: {}", it.value)).collect();
         println!(
             "  {} view {} commit {} batches {} pending {} queued {} given {} heard {}; {}",
             node.place.me,

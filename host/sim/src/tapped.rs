@@ -106,6 +106,12 @@ impl Tapped {
 }
 
 impl Core for Tapped {
+    type Desk = Replica;
+
+    fn desk(&mut self) -> &mut Replica {
+        &mut self.replica
+    }
+
     fn prepare(&mut self, event: &Event) -> Result<Vec<u8>, Error> {
         let event = match event {
             Event::Arrived(txs) => Event::Arrived(self.twist.applied(txs)),
@@ -162,10 +168,6 @@ impl Core for Tapped {
 
     fn views(&mut self) -> Result<(u32, u32), Error> {
         self.replica.views()
-    }
-
-    fn is_proposed(&mut self, tx: &Tx) -> Result<bool, Error> {
-        self.replica.is_proposed(tx)
     }
 
     fn give_count(&mut self, above: u32) -> Result<usize, Error> {

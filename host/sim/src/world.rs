@@ -209,13 +209,8 @@ impl World {
     }
 
     fn synced(&mut self, replica: u32) -> Result<(), Violation> {
-        let node = &mut self.nodes[replica as usize];
-        if let Some(process) = &mut node.process {
-            if let Some(pending) = process.pending.take() {
-                node.disk.append(pending.records());
-                process.engine.durable(pending);
-                self.make_turns(replica)?;
-            }
+        if self.nodes[replica as usize].synced() {
+            self.make_turns(replica)?;
         }
         self.drive(replica)
     }
@@ -244,7 +239,7 @@ impl World {
                         self.send_tampered(replica, peer, frame.clone());
                     }
                 }
-                Output::Answer(ticket, answer) => self.answer(replica, ticket, answer),
+                Output::Answer(ticket, answer) => self.answer(replica, ticket, answer)?,
                 Output::Batch { position, txs } => {
                     self.nodes[replica as usize].take_batch(position, txs)?;
                     self.has_new = true;
@@ -344,10 +339,17 @@ impl World {
         self.drive(replica)
     }
 
-    fn answer(&mut self, replica: u32, ticket: u64, answer: Answer) {
-        let number = self.nodes[replica as usize].tickets.remove(&ticket);
-        if let (Some(number), Answer::Ok { .. }) = (number, answer) {
-            self.answered[replica as usize][number] = true;
+    /// A client that hears `ok` relies on it.
+    fn answer(&mut self, replica: u32, ticket: u64, answer: Answer) -> Result<(), Violation> {
+        let node = &mut self.nodes[replica as usize];
+        let number = node.tickets.remove(&ticket);
+        let (Some(number), Answer::Ok { .. }) = (number, answer) else { return Ok(()) };
+        self.answered[replica as usize][number] = true;
+        match node.unsafe_one(&self.plan.submissions[number].txs) {
+            Some(tx) if self.plan.is_honest(replica) => {
+                Err(Violation(format!("replica {replica} answers ok, and {tx:?} is not durable")))
+            }
+            Some(_) | None => Ok(()),
         }
     }
 }
