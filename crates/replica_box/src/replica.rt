@@ -82,8 +82,7 @@ impl Replica {
     /// Replays the log. Returns the replica, and the length of the part of the log that is used: the header and all whole
     /// records. What follows is a torn record: the host truncates it before it appends. The length is 0 where the log is new
     /// or ends within the header: then the host truncates the log, and makes [`Replica::header`] durable first.
-    /// `id` and `seed` are the replica's secret, of 48 random bytes; `publics` are the public keys of all replicas. What the
-    /// turns on the log send is not sent again.
+    /// `id` and `seed` are its secret, of 48 random bytes; `publics` are all public keys. What was sent is not sent again.
     pub fn open(
         alloc: Global,
         role: &Role,
@@ -178,8 +177,7 @@ impl Replica {
         }
     }
 
-    /// Whether the replica has halted: its memory ran out in a turn. A tick above the last view changes nothing, so only a halted
-    /// node refuses it as halted.
+    /// Whether memory ran out in a turn: only a halted node refuses a tick above the last view as halted.
     pub fn is_halted(&self) -> bool
         ensures { result ≡ self.now.node.halted }
     {
