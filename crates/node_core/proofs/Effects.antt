@@ -1,18 +1,17 @@
 -- An event that takes effect changes something, kind by kind.
-use Rattle.std.proofs.Common.{◌≡◌, ◌≢◌, ℕ, ◌+◌, ◌<◌, ◌≤◌, max, List, [], ◌∷◌, ◌++◌, length, Bool, true, false, nat_eq, nat_lt, nat_le, is_some, if◌then◌else◌, refl, sym, ap, ◌∙◌, arith, inl, inr}
+use Rattle.std.proofs.Common.{◌≡◌, ◌≢◌, ℕ, ◌+◌, ◌<◌, ◌≤◌, List, [], ◌∷◌, ◌++◌, length, Bool, true, false, nat_eq, nat_lt, is_some, if◌then◌else◌, refl, sym, ap, ◌∙◌, arith, inl, inr}
 use Rattle.std.specs.Prelude.{count_by}
 use Rattle.std.proofs.lemmas.Bool.{cases_Bool, or_parts}
-use Rattle.std.proofs.lemmas.Bool.Decides.{nat_tests}
 use Rattle.std.proofs.lemmas.List.{length_push, length-append}
 use Rattle.std.proofs.lemmas.List.Edits.{length-insert}
 use Rattle.std.proofs.lemmas.List.Sums.{count_by-le-length}
-use Rattle.seq_base.specs.declared.kinds.TheConstants.{NEW_VIEW, ASK}
+use Rattle.seq_base.specs.declared.kinds.TheConstants.{ASK}
 use Rattle.seq_base.specs.declared.tx.Tx.{Tx}
 use Rattle.seq_base.specs.declared.digest.Digest.{Digest}
 use Rattle.seq_base.specs.declared.block.Block.{Block}
 use Rattle.seq_base.specs.declared.order.LocalOrder.{LocalOrder}
 use Rattle.seq_base.specs.declared.order.SealedOrder.{SealedOrder}
-use Rattle.seq_base.specs.Setting.{leader_of, quorum_of}
+use Rattle.seq_base.specs.Setting.{quorum_of}
 use Rattle.seq_base.specs.Blocks.{digest_eq, first_digest}
 use Rattle.seq_base.specs.Spelling.{call_spelling, order_spelling}
 use Rattle.block_store.specs.Store.{block_digest, block_at, is_stored}
@@ -27,7 +26,7 @@ use Rattle.node_core.specs.Ask.{ask_done, order_of_view}
 use Rattle.node_core.specs.Order.{order_done, are_enough, with_order, proposal}
 use Rattle.node_core.specs.Propose.{propose_done, voted, vote_for, lone_vote}
 use Rattle.node_core.specs.Give.{give_done}
-use Rattle.node_core.specs.Turn.{on_arrived, on_tick}
+use Rattle.node_core.specs.Turn.{on_arrived}
 use Rattle.node_core.specs.Idle.{NoneFormed, Changes}
 
 -- what is known differs
@@ -49,15 +48,6 @@ pub arrival_changes : (s : State) (list : List Tx) → 0 < length list → Chang
 arrival_changes s list some = changed s (knowing s (record s.known { prefix = s.known.prefix ++ list })) _ refl refl (λ none same. (
     let longer : length (s.known.prefix ++ list) ≡ length s.known.prefix = ap (λ (k : Known). length k.prefix) same in
     omega (arith, longer, length-append s.known.prefix list)))
-
-pub tick_changes : (s : State) (gives : Gives) (floor : ℕ) → max s.known.view floor < s.known.views → Changes s (on_tick gives s floor)
-unfolding on_tick
-tick_changes s gives floor less =
-    let below : nat_le s.known.views (max s.known.view floor) ≡ false = grind (arith, nat_tests, less) in
-    let after : State = knowing s (record s.known { view = max s.known.view floor + 1 }) in
-    rw below (sealed_changed s after gives (call_spelling NEW_VIEW after.known.me after.known.view after.known.high) (leader_of after.known.setting after.known.view ∷ []) (λ none same. (
-    let view : max s.known.view floor + 1 ≡ s.known.view = ap (λ (k : Known). k.view) same in
-    omega (arith, view))))
 
 called : (s t : State) (c : Called) → t.known.gathered ≡ s.known.gathered ++ c ∷ [] → Differ s t
 called s t c is none same =

@@ -1,4 +1,4 @@
 pub mod Above
+pub mod Acceptance
 pub mod Ballots
 pub mod Effects
-pub mod Taken

@@ -4,6 +4,7 @@ pub mod Delivered
 pub mod FaultWords
 pub mod Give
 pub mod Idle
+pub mod Judged
 pub mod NewView
 pub mod Order
 pub mod Propose

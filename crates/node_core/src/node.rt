@@ -1,5 +1,6 @@
-//! A node, its turns, and the effect of each kind of event. Each kind of message has a file.
-ghost use Rattle.std.specs.Prelude.{◌≡◌, ◌≤◌, ◌<◌, ◌*◌, ◌↔◌, Err, false, IsTrue, IfOk, OnOk, OnErr};
+//! A node and its turns. A turn judges its event by the tests of the turn table, and then applies it if no test held.
+//! Each kind of message has a file, with how it is judged and what it does.
+ghost use Rattle.std.specs.Prelude.{◌≡◌, ◌≤◌, ◌<◌, ◌*◌, ◌↔◌, [], Err, false, IsTrue, IfOk, IfSome, IfNone, OnOk, OnErr};
 ghost use Rattle.std.specs.Borrow.{Lends, sem};
 ghost use Rattle.block_store.specs.Store.{block_digest};
 ghost use Rattle.chain_state.specs.Standings.{finals};
@@ -7,26 +8,29 @@ ghost use Rattle.hotstuff_core.specs.Rules.{view_at};
 ghost use Rattle.node_core.specs.contracts.node.Node.{the_row};
 ghost use Rattle.node_core.specs.State.{fresh_seat, KeepsSeat, with_sealer};
 ghost use Rattle.node_core.specs.Rows.{chain_at};
-ghost use Rattle.node_core.specs.Turn.{turn_of, on_message, on_tick};
+ghost use Rattle.node_core.specs.Idle.{Changes};
+ghost use Rattle.node_core.specs.Turn.{turn_of};
 ghost use Rattle.node_core.specs.Readable.{IsReadable};
 
+mod apply;
 mod ask;
 mod catch_up;
 mod give;
-mod idle;
+mod judge;
 mod new_view;
 mod order;
 mod propose;
 mod queries;
 mod vote;
 
+use crate::judged::Judged;
 use crate::state::State;
-use crate::{Event, NodeFault, Reason, Turned};
+use crate::{Event, NodeFault, Turned};
 use seal_kit::{Checker, Sealer};
 use seq_base::{BatchList, Digest, NoMemory, Setting};
 use std::alloc::Global;
 use std::marker::Model;
-use wire_view::{BlockView, MessageView, read};
+use wire_view::BlockView;
 use wire_write::digest;
 
 /// A replica of the sequencer.
@@ -99,7 +103,7 @@ impl<S: Sealer> Node<S> {
         self.state.finals()
     }
 
-    /// The sealer, for those who misuse it.
+    /// The sealer, for the simulator alone: there a faulty replica seals what no turn gives it. A host has no use for it.
     pub fn sealer_mut(&mut self) -> &mut S
         ensures* writes_back { sem 𝓛 (Lends (the_row S.row S.Sealer) S.row self.entry result (with_sealer S.made S.capacity self.old)) }
         ensures value { result.now ≡ self.old.sealer }
@@ -138,52 +142,36 @@ impl<S: Sealer> Node<S> {
         ensures readable { OnOk result (IsReadable event.now) }
         ensures seat { KeepsSeat S.Sealer self.old self.new }
     {
-        match event {
-            Event::Arrived(list) => {
-                self.state.arrive(list.as_slice())?;
-                Ok(self.quiet(Reason::Done))
-            }
-            Event::Deliver { from, bytes } => match read(bytes.as_slice()) {
-                Ok(message) => self.deliver(checker, *from, &message),
-                Err(fault) => Ok(self.quiet(Reason::BadWire(fault))),
-            },
-            Event::Tick { floor } => self.tick(*floor),
+        match self.judge(checker, event)? {
+            Judged::Idle(turned) => Ok(turned),
+            Judged::Active(accepted) => self.apply(accepted),
         }
     }
 
-    fn deliver<C: Checker>(
-        &mut self,
+    /// The turn on an event that changes nothing, so that a host need not log the event. It seals nothing, but it may
+    /// send: a Fetch or the answer to one. `None` means that the event changes the node, so call [`Node::turn`]. A
+    /// halted node returns `Halted`. Out of memory, the result is `NoMemory`, and the node is not halted.
+    pub fn idle_turn<C: Checker>(
+        &self,
         checker: &C,
-        from: u32,
-        message: &MessageView<'_>,
-    ) -> Result<Turned, NoMemory>
-        ensures ok { IfOk result (λ t.
-            on_message (C.meaning checker.now) (S.gives self.old.sealer) self.old.state from message.now ≡ record { reported = t; state = self.new.state }) }
-        ensures seat { KeepsSeat S.Sealer self.old self.new }
+        event: &Event,
+    ) -> Result<Option<Turned>, NodeFault>
+        ensures idle { IfOk result (λ t. IfSome t (λ reported.
+            turn_of (C.meaning checker.now) (S.gives self.now.sealer) self.now.state event.now ≡ record { reported = reported; state = self.now.state })) }
+        ensures changes { IfOk result (λ t. IfNone t
+            (Changes self.now.state (turn_of (C.meaning checker.now) (S.gives self.now.sealer) self.now.state event.now))) }
+        ensures unsealed { IfOk result (λ t. IfSome t (λ reported. reported.sealed ≡ [])) }
+        ensures readable { OnOk result (IsReadable event.now) }
+        ensures halted { (result ≡ Err NodeFault.Halted) ↔ IsTrue self.now.halted }
     {
-        match message {
-            MessageView::NewView(call) => self.new_view(checker, from, call),
-            MessageView::Ask(call) => self.ask(checker, from, call),
-            MessageView::Order(order) => self.order(checker, from, order),
-            MessageView::Propose(propose) => self.propose(checker, from, propose),
-            MessageView::Vote(vote) => self.vote(checker, from, vote),
-            MessageView::Fetch(block) => self.fetch(from, block),
-            MessageView::Give(block) => self.handle_give(checker, from, block),
+        if self.halted {
+            return Err(NodeFault::Halted);
         }
-    }
-
-    #[tactic(auto, unfolding(crate::specs::Turn::on_tick))]
-    fn tick(&mut self, floor: u32) -> Result<Turned, NoMemory>
-        ensures ok { IfOk result (λ t.
-            on_tick (S.gives self.old.sealer) self.old.state floor ≡ record { reported = t; state = self.new.state }) }
-        ensures seat { KeepsSeat S.Sealer self.old self.new }
-    {
-        let view = self.state.view().max(floor);
-        if view >= self.state.views() {
-            return Ok(self.quiet(Reason::ViewLimit));
+        match self.judge(checker, event) {
+            Ok(Judged::Idle(turned)) => Ok(Some(turned)),
+            Ok(Judged::Active(_)) => Ok(None),
+            Err(_) => Err(NodeFault::NoMemory),
         }
-        self.state.set_view(view + 1);
-        self.send_new_view()
     }
 }
 

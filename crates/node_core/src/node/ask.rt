@@ -1,38 +1,37 @@
-//! The effect of an Ask: the node draws its local order, and sends it to the leader.
-ghost use Rattle.std.specs.Prelude.{◌≡◌, ◌≤◌, ◌<◌, IfOk};
+//! Ask: the node draws its local order, and sends it to the leader.
+ghost use Rattle.std.specs.Prelude.{◌≡◌, IfOk};
 ghost use Rattle.node_core.specs.State.{KeepsSeat};
 ghost use Rattle.node_core.specs.Ask.{on_ask, ask_done};
+ghost use Rattle.node_core.specs.Judged.{IsJudged, IsInRun};
 
 use super::Node;
-use crate::rows::ask_reason;
+use crate::checks::ask_reason;
+use crate::judged::{Accepted, Judged};
 use crate::{Reason, Turned};
 use seal_kit::{Checker, Sealer};
 use seq_base::NoMemory;
 use wire_view::CallView;
 
 impl<S: Sealer> Node<S> {
-    pub(super) fn ask<C: Checker>(
-        &mut self,
+    pub(super) fn judge_ask<'a, C: Checker>(
+        &self,
         checker: &C,
         from: u32,
-        call: &CallView<'_>,
-    ) -> Result<Turned, NoMemory>
-        ensures ok { IfOk result (λ t.
-            on_ask (C.meaning checker.now) (S.gives self.old.sealer) self.old.state from call.now ≡ record { reported = t; state = self.new.state }) }
-        ensures seat { KeepsSeat S.Sealer self.old self.new }
+        call: CallView<'a>,
+    ) -> Result<Judged<'a>, NoMemory>
+        ensures { IfOk result (IsJudged (S.gives self.now.sealer) self.now.state (on_ask (C.meaning checker.now) (S.gives self.now.sealer) self.now.state from call.entry)) }
     {
-        match ask_reason(&self.state, checker, from, call) {
-            Reason::Done => self.answer_ask(from, call),
-            Reason::Orphan => self.send_fetch(from, &call.cert().block()),
-            reason => Ok(self.quiet(reason)),
+        match ask_reason(&self.state, checker, from, &call) {
+            Reason::Done => Ok(Judged::Active(Accepted::Ask { from, call })),
+            Reason::Orphan => Ok(Judged::Idle(self.send_fetch(from, &call.cert().block())?)),
+            reason => Ok(Judged::Idle(self.quiet(reason))),
         }
     }
 
-    /// Takes an Ask: sends the node's own order to the leader.
+    /// Sends the node's own order to the leader.
     #[tactic(auto, unfolding(crate::specs::Ask::ask_done))]
-    fn answer_ask(&mut self, from: u32, call: &CallView<'_>) -> Result<Turned, NoMemory>
-        requires view { call.now.view ≤ self.old.state.known.views }
-        requires earlier { call.now.cert.view < call.now.view }
+    pub(super) fn apply_ask(&mut self, from: u32, call: &CallView<'_>) -> Result<Turned, NoMemory>
+        requires { IsInRun self.old.state.known call.now }
         ensures ok { IfOk result (λ t.
             ask_done (S.gives self.old.sealer) self.old.state from call.now ≡ record { reported = t; state = self.new.state }) }
         ensures seat { KeepsSeat S.Sealer self.old self.new }

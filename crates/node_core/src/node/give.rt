@@ -1,12 +1,13 @@
-//! The effects of a Fetch and a Give: a stored block is sent to the replica that asks, and a received block is stored.
-ghost use Rattle.std.specs.Prelude.{◌≡◌, ◌≤◌, ◌<◌, [], false, true, IfOk};
-ghost use Rattle.seq_base.specs.Limits.{IsWithin};
-ghost use Rattle.block_store.specs.Store.{block_digest, is_stored, clashes};
+//! Fetch and Give: a stored block is sent to the replica that asks, and a received block is stored.
+ghost use Rattle.std.specs.Prelude.{◌≡◌, ◌≤◌, ◌<◌, [], true, IfOk};
+ghost use Rattle.block_store.specs.Store.{is_stored};
 ghost use Rattle.node_core.specs.State.{KeepsSeat};
 ghost use Rattle.node_core.specs.Give.{on_fetch, on_give, given_reason, given_for, give_done};
+ghost use Rattle.node_core.specs.Judged.{IsJudged, IsStorable};
 
 use super::{Node, name_of};
-use crate::rows::{give_reason, given_reason};
+use crate::checks::{give_reason, given_block_reason};
+use crate::judged::{Accepted, Judged};
 use crate::{Reason, Turned};
 use seal_kit::{Checker, Sealer};
 use seq_base::{Block, Digest, NoMemory};
@@ -23,59 +24,48 @@ impl<S: Sealer> Node<S> {
         }
     }
 
-    pub(super) fn handle_give<C: Checker>(
-        &mut self,
+    pub(super) fn judge_give<'a, C: Checker>(
+        &self,
         checker: &C,
         from: u32,
-        view: &BlockView<'_>,
-    ) -> Result<Turned, NoMemory>
-        ensures ok { IfOk result (λ t.
-            on_give (C.meaning checker.now) self.old.state from view.now ≡ record { reported = t; state = self.new.state }) }
-        ensures seat { KeepsSeat S.Sealer self.old self.new }
+        view: &BlockView<'a>,
+    ) -> Result<Judged<'a>, NoMemory>
+        ensures { IfOk result (IsJudged (S.gives self.now.sealer) self.now.state (on_give (C.meaning checker.now) self.now.state from view.now)) }
     {
         match give_reason(&self.state, checker, view) {
-            Reason::Done => self.given(checker, view),
-            Reason::Orphan => self.send_fetch(from, &view.cert().block()),
-            reason => Ok(self.quiet(reason)),
+            Reason::Done => self.judge_given_block(checker, view),
+            Reason::Orphan => Ok(Judged::Idle(self.send_fetch(from, &view.cert().block())?)),
+            reason => Ok(Judged::Idle(self.quiet(reason))),
         }
     }
 
-    fn given<C: Checker>(&mut self, checker: &C, view: &BlockView<'_>) -> Result<Turned, NoMemory>
-        requires view { view.now.view ≤ self.old.state.known.views }
+    fn judge_given_block<'a, C: Checker>(
+        &self,
+        checker: &C,
+        view: &BlockView<'a>,
+    ) -> Result<Judged<'a>, NoMemory>
+        requires view { view.now.view ≤ self.now.state.known.views }
         requires earlier { view.now.cert.view < view.now.view }
-        requires parent { is_stored self.old.state.known.store view.now.cert.block ≡ true }
-        ensures ok { IfOk result (λ t.
-            given_for self.old.state view.now (given_reason (C.meaning checker.now) self.old.state.known view.now) ≡ record { reported = t; state = self.new.state }) }
-        ensures seat { KeepsSeat S.Sealer self.old self.new }
+        requires parent { is_stored self.now.state.known.store view.now.cert.block ≡ true }
+        ensures { IfOk result (IsJudged (S.gives self.now.sealer) self.now.state (given_for self.now.state view.now (given_reason (C.meaning checker.now) self.now.state.known view.now))) }
     {
         let block = view.own(self.alloc)?;
-        let name = name_of(view);
-        match given_reason(&self.state, checker, view, &block, &name)? {
-            Reason::Done => self.take_given(view, block, &name),
-            reason => Ok(self.quiet(reason)),
+        let digest = name_of(view);
+        match given_block_reason(&self.state, checker, view, &block, &digest)? {
+            Reason::Done => Ok(Judged::Active(Accepted::Give { block, digest })),
+            reason => Ok(Judged::Idle(self.quiet(reason))),
         }
     }
 
-    /// Takes a Give: stores its block.
+    /// Stores the block.
     #[tactic(auto, unfolding(crate::specs::Give::give_done))]
-    fn take_given(
-        &mut self,
-        view: &BlockView<'_>,
-        block: Block,
-        name: &Digest,
-    ) -> Result<Turned, NoMemory>
-        requires view { view.now.view ≤ self.old.state.known.views }
-        requires earlier { view.now.cert.view < view.now.view }
-        requires same { block ≡ view.now }
-        requires within { IsWithin block }
-        requires own { name.now ≡ block_digest block }
-        requires parent { is_stored self.old.state.known.store block.cert.block ≡ true }
-        requires alone { clashes self.old.state.known.store name.now block ≡ false }
+    pub(super) fn apply_give(&mut self, block: Block, digest: &Digest) -> Result<Turned, NoMemory>
+        requires { IsStorable self.old.state.known block digest.now }
         ensures ok { IfOk result (λ t.
-            give_done self.old.state view.now ≡ record { reported = t; state = self.new.state }) }
+            give_done self.old.state block ≡ record { reported = t; state = self.new.state }) }
         ensures seat { KeepsSeat S.Sealer self.old self.new }
     {
-        self.state.take_block(view, block, name)?;
+        self.state.take_block(block, digest)?;
         Ok(self.quiet(Reason::Done))
     }
 }

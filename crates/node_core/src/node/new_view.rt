@@ -1,39 +1,42 @@
-//! The effect of a NewView: a replica calls for a view. With the calls of a quorum the leader asks for local orders.
-ghost use Rattle.std.specs.Prelude.{◌≡◌, ◌≤◌, ◌<◌, IfOk};
+//! NewView: a replica calls for a view. With the calls of a quorum the leader asks for local orders.
+ghost use Rattle.std.specs.Prelude.{◌≡◌, ◌≤◌, IfOk};
 ghost use Rattle.node_core.specs.State.{KeepsSeat, knowing};
 ghost use Rattle.node_core.specs.See.{asked_for};
 ghost use Rattle.node_core.specs.NewView.{on_new_view, new_view_done, asks};
+ghost use Rattle.node_core.specs.Judged.{IsJudged, IsInRun};
 
 use super::Node;
-use crate::rows::new_view_reason;
+use crate::checks::new_view_reason;
+use crate::judged::{Accepted, Judged};
 use crate::{Reason, Turned};
 use seal_kit::{Checker, Sealer};
 use seq_base::NoMemory;
 use wire_view::CallView;
 
 impl<S: Sealer> Node<S> {
-    pub(super) fn new_view<C: Checker>(
-        &mut self,
+    pub(super) fn judge_new_view<'a, C: Checker>(
+        &self,
         checker: &C,
         from: u32,
-        call: &CallView<'_>,
-    ) -> Result<Turned, NoMemory>
-        ensures ok { IfOk result (λ t.
-            on_new_view (C.meaning checker.now) (S.gives self.old.sealer) self.old.state from call.now ≡ record { reported = t; state = self.new.state }) }
-        ensures seat { KeepsSeat S.Sealer self.old self.new }
+        call: CallView<'a>,
+    ) -> Result<Judged<'a>, NoMemory>
+        ensures { IfOk result (IsJudged (S.gives self.now.sealer) self.now.state (on_new_view (C.meaning checker.now) (S.gives self.now.sealer) self.now.state from call.entry)) }
     {
-        match new_view_reason(&self.state, checker, from, call) {
-            Reason::Done => self.gather(from, call),
-            Reason::Orphan => self.send_fetch(from, &call.cert().block()),
-            reason => Ok(self.quiet(reason)),
+        match new_view_reason(&self.state, checker, from, &call) {
+            Reason::Done => Ok(Judged::Active(Accepted::NewView { from, call })),
+            Reason::Orphan => Ok(Judged::Idle(self.send_fetch(from, &call.cert().block())?)),
+            reason => Ok(Judged::Idle(self.quiet(reason))),
         }
     }
 
-    /// Takes a NewView. With those of a quorum the leader asks for local orders.
+    /// Counts the call. With those of a quorum the leader asks for local orders.
     #[tactic(auto, unfolding(crate::specs::NewView::new_view_done))]
-    fn gather(&mut self, from: u32, call: &CallView<'_>) -> Result<Turned, NoMemory>
-        requires view { call.now.view ≤ self.old.state.known.views }
-        requires earlier { call.now.cert.view < call.now.view }
+    pub(super) fn apply_new_view(
+        &mut self,
+        from: u32,
+        call: &CallView<'_>,
+    ) -> Result<Turned, NoMemory>
+        requires { IsInRun self.old.state.known call.now }
         ensures ok { IfOk result (λ t.
             new_view_done (S.gives self.old.sealer) self.old.state from call.now ≡ record { reported = t; state = self.new.state }) }
         ensures seat { KeepsSeat S.Sealer self.old self.new }

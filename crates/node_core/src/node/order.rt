@@ -1,47 +1,50 @@
-//! The effect of an Order: the leader keeps it. With the orders of a quorum it proposes a block.
-ghost use Rattle.std.specs.Prelude.{◌≡◌, IfOk};
+//! Order: the leader keeps it. With the orders of a quorum it proposes a block.
+ghost use Rattle.std.specs.Prelude.{◌≡◌, ◌≢◌, IfOk};
 ghost use Rattle.node_core.specs.State.{KeepsSeat};
 ghost use Rattle.node_core.specs.Order.{on_order, kept_order_reason, kept_order_for, order_done, proposes_if};
+ghost use Rattle.node_core.specs.Judged.{IsJudged};
 
 use super::Node;
-use crate::rows::{kept_order_reason, order_reason};
+use crate::checks::{order_reason, owned_order_reason};
+use crate::judged::{Accepted, Judged};
 use crate::{Reason, Turned};
 use seal_kit::{Checker, Sealer};
 use seq_base::{Block, NoMemory, SealedOrder};
 use wire_view::OrderView;
 
 impl<S: Sealer> Node<S> {
-    pub(super) fn order<C: Checker>(
-        &mut self,
+    pub(super) fn judge_order<'a, C: Checker>(
+        &self,
         checker: &C,
         from: u32,
-        order: &OrderView<'_>,
-    ) -> Result<Turned, NoMemory>
-        ensures ok { IfOk result (λ t.
-            on_order (C.meaning checker.now) (S.gives self.old.sealer) self.old.state from order.now ≡ record { reported = t; state = self.new.state }) }
-        ensures seat { KeepsSeat S.Sealer self.old self.new }
+        order: &OrderView<'a>,
+    ) -> Result<Judged<'a>, NoMemory>
+        ensures { IfOk result (IsJudged (S.gives self.now.sealer) self.now.state (on_order (C.meaning checker.now) (S.gives self.now.sealer) self.now.state from order.now)) }
     {
         match order_reason(&self.state, checker, from, order) {
-            Reason::Done => self.owned_order(from, order),
-            reason => Ok(self.quiet(reason)),
+            Reason::Done => self.judge_owned_order(from, order),
+            reason => Ok(Judged::Idle(self.quiet(reason))),
         }
     }
 
-    fn owned_order(&mut self, from: u32, order: &OrderView<'_>) -> Result<Turned, NoMemory>
-        ensures ok { IfOk result (λ t.
-            kept_order_for (S.gives self.old.sealer) self.old.state order.now (kept_order_reason self.old.state.known from order.now.order) ≡ record { reported = t; state = self.new.state }) }
-        ensures seat { KeepsSeat S.Sealer self.old self.new }
+    fn judge_owned_order<'a>(
+        &self,
+        from: u32,
+        order: &OrderView<'a>,
+    ) -> Result<Judged<'a>, NoMemory>
+        requires { self.now.state.known.asked ≢ self.now.state.known.proposed }
+        ensures { IfOk result (IsJudged (S.gives self.now.sealer) self.now.state (kept_order_for (S.gives self.now.sealer) self.now.state order.now (kept_order_reason self.now.state.known from order.now.order))) }
     {
         let sealed = order.own(self.alloc)?;
-        match kept_order_reason(&self.state, from, &sealed.order)? {
-            Reason::Done => self.keep_order(sealed),
-            reason => Ok(self.quiet(reason)),
+        match owned_order_reason(&self.state, from, &sealed.order)? {
+            Reason::Done => Ok(Judged::Active(Accepted::Order(sealed))),
+            reason => Ok(Judged::Idle(self.quiet(reason))),
         }
     }
 
-    /// Takes an Order. With those of a quorum the leader proposes a block.
+    /// Keeps the order. With those of a quorum the leader proposes a block.
     #[tactic(auto, unfolding(crate::specs::Order::order_done))]
-    fn keep_order(&mut self, sealed: SealedOrder) -> Result<Turned, NoMemory>
+    pub(super) fn apply_order(&mut self, sealed: SealedOrder) -> Result<Turned, NoMemory>
         ensures ok { IfOk result (λ t.
             order_done (S.gives self.old.sealer) self.old.state sealed ≡ record { reported = t; state = self.new.state }) }
         ensures seat { KeepsSeat S.Sealer self.old self.new }

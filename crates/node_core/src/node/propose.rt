@@ -1,78 +1,69 @@
-//! The effect of a Propose: the node stores the block, and votes for it.
-ghost use Rattle.std.specs.Prelude.{◌≡◌, ◌≤◌, ◌<◌, ◌+◌, false, true, IfOk};
-ghost use Rattle.seq_base.specs.Limits.{IsWithin};
-ghost use Rattle.block_store.specs.Store.{block_digest, is_stored, clashes};
+//! Propose: the node stores the block, and votes for it.
+ghost use Rattle.std.specs.Prelude.{◌≡◌, ◌≤◌, ◌<◌, ◌+◌, true, IfOk};
+ghost use Rattle.block_store.specs.Store.{is_stored};
 ghost use Rattle.node_core.specs.State.{KeepsSeat};
 ghost use Rattle.node_core.specs.Propose.{on_propose, proposed_reason, proposed_for, propose_done, voted};
+ghost use Rattle.node_core.specs.Judged.{IsJudged, IsStorable};
 
 use super::{Node, name_of};
-use crate::rows::{propose_reason, proposed_reason};
+use crate::checks::{propose_reason, proposed_block_reason};
+use crate::judged::{Accepted, Judged};
 use crate::{Reason, Turned};
 use seal_kit::{Checker, Sealer};
 use seq_base::{Block, Digest, NoMemory};
 use wire_view::{BlockView, ProposeView};
 
 impl<S: Sealer> Node<S> {
-    pub(super) fn propose<C: Checker>(
-        &mut self,
+    pub(super) fn judge_propose<'a, C: Checker>(
+        &self,
         checker: &C,
         from: u32,
-        propose: &ProposeView<'_>,
-    ) -> Result<Turned, NoMemory>
-        ensures ok { IfOk result (λ t.
-            on_propose (C.meaning checker.now) (S.gives self.old.sealer) self.old.state from propose.now ≡ record { reported = t; state = self.new.state }) }
-        ensures seat { KeepsSeat S.Sealer self.old self.new }
+        propose: &ProposeView<'a>,
+    ) -> Result<Judged<'a>, NoMemory>
+        ensures { IfOk result (IsJudged (S.gives self.now.sealer) self.now.state (on_propose (C.meaning checker.now) (S.gives self.now.sealer) self.now.state from propose.now)) }
     {
         let block = propose.block();
         match propose_reason(&self.state, checker, from, propose) {
-            Reason::Done => self.proposed(checker, &block),
-            Reason::Orphan => self.send_fetch(from, &block.cert().block()),
-            reason => Ok(self.quiet(reason)),
+            Reason::Done => self.judge_proposed_block(checker, &block),
+            Reason::Orphan => Ok(Judged::Idle(self.send_fetch(from, &block.cert().block())?)),
+            reason => Ok(Judged::Idle(self.quiet(reason))),
         }
     }
 
-    fn proposed<C: Checker>(
-        &mut self,
+    fn judge_proposed_block<'a, C: Checker>(
+        &self,
         checker: &C,
-        view: &BlockView<'_>,
-    ) -> Result<Turned, NoMemory>
-        requires view { view.now.view ≤ self.old.state.known.views }
+        view: &BlockView<'a>,
+    ) -> Result<Judged<'a>, NoMemory>
+        requires view { view.now.view ≤ self.now.state.known.views }
         requires earlier { view.now.cert.view < view.now.view }
-        requires parent { is_stored self.old.state.known.store view.now.cert.block ≡ true }
-        ensures ok { IfOk result (λ t.
-            proposed_for (S.gives self.old.sealer) self.old.state view.now (proposed_reason (C.meaning checker.now) self.old.state.known view.now) ≡ record { reported = t; state = self.new.state }) }
-        ensures seat { KeepsSeat S.Sealer self.old self.new }
+        requires parent { is_stored self.now.state.known.store view.now.cert.block ≡ true }
+        ensures { IfOk result (IsJudged (S.gives self.now.sealer) self.now.state (proposed_for (S.gives self.now.sealer) self.now.state view.now (proposed_reason (C.meaning checker.now) self.now.state.known view.now))) }
     {
         let block = view.own(self.alloc)?;
-        let name = name_of(view);
-        match proposed_reason(&self.state, checker, view, &block, &name)? {
-            Reason::Done => self.take_proposed(view, block, &name),
-            reason => Ok(self.quiet(reason)),
+        let digest = name_of(view);
+        match proposed_block_reason(&self.state, checker, view, &block, &digest)? {
+            Reason::Done => Ok(Judged::Active(Accepted::Propose { block, digest })),
+            reason => Ok(Judged::Idle(self.quiet(reason))),
         }
     }
 
-    /// Takes a Propose: stores its block, and votes.
+    /// Stores the block, and votes.
     #[tactic(auto, unfolding(crate::specs::Propose::propose_done))]
-    fn take_proposed(
+    pub(super) fn apply_propose(
         &mut self,
-        view: &BlockView<'_>,
         block: Block,
-        name: &Digest,
+        digest: &Digest,
     ) -> Result<Turned, NoMemory>
-        requires view { view.now.view ≤ self.old.state.known.views }
-        requires earlier { view.now.cert.view < view.now.view }
-        requires later { self.old.state.known.safety.voted < view.now.view }
-        requires same { block ≡ view.now }
-        requires within { IsWithin block }
-        requires own { name.now ≡ block_digest block }
-        requires parent { is_stored self.old.state.known.store block.cert.block ≡ true }
-        requires alone { clashes self.old.state.known.store name.now block ≡ false }
+        requires storable { IsStorable self.old.state.known block digest.now }
+        requires later { self.old.state.known.safety.voted < block.view }
         ensures ok { IfOk result (λ t.
-            propose_done (S.gives self.old.sealer) self.old.state view.now ≡ record { reported = t; state = self.new.state }) }
+            propose_done (S.gives self.old.sealer) self.old.state block ≡ record { reported = t; state = self.new.state }) }
         ensures seat { KeepsSeat S.Sealer self.old self.new }
     {
-        self.state.take_block(view, block, name)?;
-        self.cast_vote(view.view(), name)
+        let view = block.view;
+        self.state.take_block(block, digest)?;
+        self.cast_vote(view, digest)
     }
 
     /// Votes for a block that was just stored. If there is a next view, the vote carries the node's own order.

@@ -1,12 +1,14 @@
-//! The effect of a Vote: the next leader keeps it. The votes of a quorum certify their block.
-ghost use Rattle.std.specs.Prelude.{◌≡◌, ◌≤◌, ◌+◌, IfOk, IfSome};
+//! Vote: the next leader keeps it. The votes of a quorum certify their block.
+ghost use Rattle.std.specs.Prelude.{◌≡◌, ◌≤◌, ◌<◌, ◌+◌, IfOk, IfSome};
 ghost use Rattle.quorum_cert.specs.Boxes.{bare};
 ghost use Rattle.node_core.specs.State.{KeepsSeat, knowing};
 ghost use Rattle.node_core.specs.Order.{proposes};
 ghost use Rattle.node_core.specs.Vote.{on_vote, voted_reason, voted_for, vote_done, certified, certified_if, next_block, proposing_next};
+ghost use Rattle.node_core.specs.Judged.{IsJudged};
 
 use super::Node;
-use crate::rows::{vote_reason, voted_reason};
+use crate::checks::{owned_vote_reason, vote_reason};
+use crate::judged::{Accepted, Judged};
 use crate::state::Formed;
 use crate::{Reason, Turned};
 use seal_kit::{Checker, Sealer};
@@ -15,54 +17,48 @@ use std::alloc::Global;
 use wire_view::VoteView;
 
 impl<S: Sealer> Node<S> {
-    pub(super) fn vote<C: Checker>(
-        &mut self,
+    pub(super) fn judge_vote<'a, C: Checker>(
+        &self,
         checker: &C,
         from: u32,
-        vote: &VoteView<'_>,
-    ) -> Result<Turned, NoMemory>
-        ensures ok { IfOk result (λ t.
-            on_vote (C.meaning checker.now) (S.gives self.old.sealer) self.old.state from vote.now ≡ record { reported = t; state = self.new.state }) }
-        ensures seat { KeepsSeat S.Sealer self.old self.new }
+        vote: VoteView<'a>,
+    ) -> Result<Judged<'a>, NoMemory>
+        ensures { IfOk result (IsJudged (S.gives self.now.sealer) self.now.state (on_vote (C.meaning checker.now) (S.gives self.now.sealer) self.now.state from vote.entry)) }
     {
-        match vote_reason(&self.state, checker, from, vote) {
-            Reason::Done => self.owned_vote(from, vote),
-            Reason::Orphan => self.send_fetch(from, &vote.block()),
-            reason => Ok(self.quiet(reason)),
+        match vote_reason(&self.state, checker, from, &vote) {
+            Reason::Done => self.judge_owned_vote(from, vote),
+            Reason::Orphan => Ok(Judged::Idle(self.send_fetch(from, &vote.block())?)),
+            reason => Ok(Judged::Idle(self.quiet(reason))),
         }
     }
 
-    fn owned_vote(&mut self, from: u32, vote: &VoteView<'_>) -> Result<Turned, NoMemory>
-        requires { vote.now.vote.view ≤ self.old.state.known.views }
-        ensures ok { IfOk result (λ t.
-            voted_for (S.gives self.old.sealer) self.old.state vote.now (voted_reason self.old.state.known from vote.now.vote vote.now.order) ≡ record { reported = t; state = self.new.state }) }
-        ensures seat { KeepsSeat S.Sealer self.old self.new }
+    fn judge_owned_vote<'a>(&self, from: u32, vote: VoteView<'a>) -> Result<Judged<'a>, NoMemory>
+        requires within { vote.vote.view ≤ self.now.state.known.views }
+        requires own { vote.vote.replica ≡ from }
+        requires higher { self.now.state.known.high.view < vote.vote.view }
+        ensures { IfOk result (IsJudged (S.gives self.now.sealer) self.now.state (voted_for (S.gives self.now.sealer) self.now.state vote.entry (voted_reason self.now.state.known from vote.entry.vote vote.entry.order))) }
     {
-        let order = match vote.order() {
-            Some(order) => Some(order.own(self.alloc)?),
-            None => None,
-        };
-        match voted_reason(&self.state, from, vote, order.as_ref())? {
-            Reason::Done => self.keep_vote(vote, order),
-            reason => Ok(self.quiet(reason)),
+        let order = owned_order(self.alloc, &vote)?;
+        match owned_vote_reason(&self.state, from, &vote, order.as_ref())? {
+            Reason::Done => Ok(Judged::Active(Accepted::Vote { vote, order })),
+            reason => Ok(Judged::Idle(self.quiet(reason))),
         }
     }
 
-    /// Takes a Vote. With those of a quorum its block is certified. If there is a next view, the leader then proposes
+    /// Keeps the vote. With those of a quorum its block is certified. If there is a next view, the leader then proposes
     /// the next block immediately, from the orders that the votes carried.
     #[tactic(auto, unfolding(crate::specs::Vote::vote_done))]
-    fn keep_vote(
+    pub(super) fn apply_vote(
         &mut self,
         view: &VoteView<'_>,
         order: Option<SealedOrder>,
     ) -> Result<Turned, NoMemory>
-        requires within { view.now.vote.view ≤ self.old.state.known.views }
-        requires same { order ≡ view.now.order }
+        requires { view.now.vote.view ≤ self.old.state.known.views }
         ensures ok { IfOk result (λ t.
-            vote_done (S.gives self.old.sealer) self.old.state view.now.vote view.now.order ≡ record { reported = t; state = self.new.state }) }
+            vote_done (S.gives self.old.sealer) self.old.state view.now.vote order ≡ record { reported = t; state = self.new.state }) }
         ensures seat { KeepsSeat S.Sealer self.old self.new }
     {
-        let vote = owned(self.alloc, view)?;
+        let vote = owned_vote(self.alloc, view)?;
         let formed = self
             .state
             .keep_vote(view.view(), &view.block(), vote, order)?;
@@ -91,7 +87,7 @@ impl<S: Sealer> Node<S> {
         ensures seat { KeepsSeat S.Sealer self.old self.new }
     {
         let view = formed.cert.view;
-        self.state.see_formed(&formed.cert)?;
+        self.state.see_owned(&formed.cert)?;
         if view == self.state.views() {
             return Ok(self.quiet(Reason::Done));
         }
@@ -111,11 +107,21 @@ impl<S: Sealer> Node<S> {
 }
 
 /// The vote of a message, in the form in which it is kept.
-fn owned(alloc: Global, view: &VoteView<'_>) -> Result<CertVote, NoMemory>
+fn owned_vote(alloc: Global, view: &VoteView<'_>) -> Result<CertVote, NoMemory>
     ensures { IfOk result (λ vote. vote ≡ bare view.now.vote) }
 {
     Ok(CertVote {
         replica: view.replica(),
         seal: Seal::of(Vec::from_slice(alloc, view.seal())?),
     })
+}
+
+/// The order that a vote carries.
+fn owned_order(alloc: Global, view: &VoteView<'_>) -> Result<Option<SealedOrder>, NoMemory>
+    ensures { IfOk result (λ order. order ≡ view.now.order) }
+{
+    match view.order() {
+        Some(order) => Ok(Some(order.own(alloc)?)),
+        None => Ok(None),
+    }
 }

@@ -1,14 +1,13 @@
 //! The changes that a certificate makes.
-ghost use Rattle.std.specs.Prelude.{◌≡◌, ◌≤◌, true, false, OnOk};
-ghost use Rattle.seq_base.specs.Limits.{IsWithin};
-ghost use Rattle.block_store.specs.Store.{block_digest, is_stored, clashes};
+ghost use Rattle.std.specs.Prelude.{◌≡◌, ◌≤◌, OnOk};
 ghost use Rattle.node_core.specs.NewView.{joined};
 ghost use Rattle.node_core.specs.See.{seen, asked_for, seen_block, taken};
+ghost use Rattle.node_core.specs.Judged.{IsStorable};
 
 use crate::state::State;
 use crate::state::certs::copy_of;
 use seq_base::{Block, Cert, Digest, NoMemory};
-use wire_view::{BlockView, CallView, CertView};
+use wire_view::{CallView, CertView};
 
 impl State {
     /// Takes a certificate of a message, whose block is stored. It may become the highest; the view becomes at least
@@ -23,8 +22,8 @@ impl State {
         self.see_block(cert.view(), &cert.block())
     }
 
-    /// Takes a certificate that this node built from votes.
-    pub fn see_formed(&mut self, cert: &Cert) -> Result<(), NoMemory>
+    /// Takes an owned certificate: that of a block, or one that this node built from votes.
+    pub fn see_owned(&mut self, cert: &Cert) -> Result<(), NoMemory>
         requires { cert.now.view ≤ self.old.views }
         ensures { OnOk result (self.new ≡ seen cert.now self.old) }
     {
@@ -66,22 +65,12 @@ impl State {
         Ok(())
     }
 
-    /// Takes the certificate of a block, and stores the block. It is that of a message for which no test held.
-    pub fn take_block(
-        &mut self,
-        view: &BlockView<'_>,
-        block: Block,
-        digest: &Digest,
-    ) -> Result<(), NoMemory>
-        requires view { view.now.cert.view ≤ self.old.views }
-        requires same { block ≡ view.now }
-        requires within { IsWithin block }
-        requires own { digest.now ≡ block_digest block }
-        requires parent { is_stored self.old.store block.cert.block ≡ true }
-        requires alone { clashes self.old.store digest.now block ≡ false }
-        ensures { OnOk result (self.new ≡ taken view.now self.old) }
+    /// Takes the certificate of a block, and stores the block.
+    pub fn take_block(&mut self, block: Block, digest: &Digest) -> Result<(), NoMemory>
+        requires { IsStorable self.old block digest.now }
+        ensures { OnOk result (self.new ≡ taken block self.old) }
     {
-        self.see(&view.cert())?;
+        self.see_owned(&block.cert)?;
         self.store_block(block, digest)
     }
 }

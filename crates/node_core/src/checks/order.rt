@@ -39,8 +39,8 @@ pub fn order_reason<C: Checker>(
     Reason::Done
 }
 
-/// The first that holds of the tests after those.
-pub fn kept_order_reason(state: &State, from: u32, order: &LocalOrder) -> Result<Reason, NoMemory>
+/// The first that holds of the tests after those of [`order_reason`]: they test the lists of the owned order.
+pub fn owned_order_reason(state: &State, from: u32, order: &LocalOrder) -> Result<Reason, NoMemory>
     ensures { IfOk result (λ reason. reason ≡ kept_order_reason state.now from order.now) }
 {
     if !state.order_fits(state.ask_block(), order)? {

@@ -1,18 +1,22 @@
 ghost use Rattle.std.specs.Prelude.{◌≡◌, ◌<◌, ◌≤◌};
-ghost use Rattle.node_core.specs.Ask.{ask_reason};
+ghost use Rattle.node_core.specs.NewView.{new_view_reason};
 
 use crate::Reason;
-use crate::rows::shared::is_bad;
+use crate::checks::shared::is_bad;
 use crate::state::State;
 use seal_kit::Checker;
 use wire_view::CallView;
 
-/// The first test of an Ask that holds.
-pub fn ask_reason<C: Checker>(state: &State, checker: &C, from: u32, call: &CallView<'_>) -> Reason
-    ensures value { result ≡ ask_reason (C.meaning checker.now) state.now from call.now }
+/// The first test of a NewView that holds.
+pub fn new_view_reason<C: Checker>(
+    state: &State,
+    checker: &C,
+    from: u32,
+    call: &CallView<'_>,
+) -> Reason
+    ensures value { result ≡ new_view_reason (C.meaning checker.now) state.now from call.now }
     ensures earlier { result ≡ Reason.Done → call.now.cert.view < call.now.view }
     ensures view { result ≡ Reason.Done → call.now.view ≤ state.now.views }
-    ensures later { result ≡ Reason.Done → state.now.ordered < call.now.view }
 {
     let view = call.view();
     if call.replica() != from {
@@ -21,10 +25,10 @@ pub fn ask_reason<C: Checker>(state: &State, checker: &C, from: u32, call: &Call
     if !state.has_view(view) {
         return Reason::ViewLimit;
     }
-    if from != state.leader(view) {
+    if state.leader(view) != state.me() {
         return Reason::NotLeader;
     }
-    if view < state.view() || view <= state.high_view() {
+    if view < state.view() || view <= state.high_view() || view <= state.asked() {
         return Reason::OldView;
     }
     if !checker.fits(from, call.statement(), call.seal()) {
@@ -37,7 +41,7 @@ pub fn ask_reason<C: Checker>(state: &State, checker: &C, from: u32, call: &Call
     if !state.stores(&cert.block()) {
         return Reason::Orphan;
     }
-    if view <= state.ordered() {
+    if state.has_gathered(view, from) {
         return Reason::Repeat;
     }
     Reason::Done

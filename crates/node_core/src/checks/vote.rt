@@ -2,7 +2,7 @@ ghost use Rattle.std.specs.Prelude.{◌≡◌, ◌≤◌, ◌<◌, false, IfOk, 
 ghost use Rattle.node_core.specs.Vote.{vote_is_sealed, carries_fitly, vote_reason, carried_misfits, voted_reason, has_voted};
 
 use crate::Reason;
-use crate::rows::shared::is_stored_elsewhere;
+use crate::checks::shared::is_stored_elsewhere;
 use crate::state::State;
 use seal_kit::Checker;
 use seq_base::{NoMemory, SealedOrder};
@@ -68,8 +68,9 @@ fn carries_fitly(state: &State, from: u32, vote: &VoteView<'_>) -> bool
     }
 }
 
-/// The first that holds of the tests after those.
-pub fn voted_reason(
+/// The first that holds of the tests after those of [`vote_reason`]: they test the lists of the owned order that the vote
+/// carries.
+pub fn owned_vote_reason(
     state: &State,
     from: u32,
     vote: &VoteView<'_>,

@@ -1,6 +1,6 @@
 use Rattle.std.proofs.Common.{◌≡◌, Some, refl, sym, ◌∙◌, slice_get}
 use Rattle.quorum_cert.proofs.Dropped.{drop_found}
-use Rattle.node_core.proofs.rows.shared.are_sealed.Goals as goal
+use Rattle.node_core.proofs.checks.shared.are_sealed.Goals as goal
 
 pub returns-then-not-is_sealed : goal.returns-then-not-is_sealed
 returns-then-not-is_sealed g c =

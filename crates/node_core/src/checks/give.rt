@@ -3,7 +3,7 @@ ghost use Rattle.block_store.specs.Store.{block_digest, is_stored, clashes};
 ghost use Rattle.node_core.specs.Give.{give_reason, given_reason};
 
 use crate::Reason;
-use crate::rows::shared::{is_bad, is_fit};
+use crate::checks::shared::{is_bad, is_fit};
 use crate::state::State;
 use seal_kit::Checker;
 use seq_base::{Block, Digest, NoMemory};
@@ -30,8 +30,8 @@ pub fn give_reason<C: Checker>(state: &State, checker: &C, block: &BlockView<'_>
     Reason::Done
 }
 
-/// The first that holds of the tests after those.
-pub fn given_reason<C: Checker>(
+/// The first that holds of the tests after those of [`give_reason`]: they test the owned block.
+pub fn given_block_reason<C: Checker>(
     state: &State,
     checker: &C,
     view: &BlockView<'_>,

@@ -3,7 +3,7 @@ ghost use Rattle.block_store.specs.Store.{block_digest, is_stored, clashes};
 ghost use Rattle.node_core.specs.Propose.{propose_reason, proposed_reason};
 
 use crate::Reason;
-use crate::rows::shared::{is_bad, is_fit};
+use crate::checks::shared::{is_bad, is_fit};
 use crate::state::State;
 use seal_kit::Checker;
 use seq_base::{Block, Digest, NoMemory};
@@ -48,8 +48,8 @@ pub fn propose_reason<C: Checker>(
     Reason::Done
 }
 
-/// The first that holds of the tests after those.
-pub fn proposed_reason<C: Checker>(
+/// The first that holds of the tests after those of [`propose_reason`]: they test the owned block.
+pub fn proposed_block_reason<C: Checker>(
     state: &State,
     checker: &C,
     view: &BlockView<'_>,
