@@ -7,6 +7,7 @@ use Rattle.std.proofs.lemmas.Bool.Decides.{nat_tests}
 use Rattle.std.proofs.lemmas.List.{length-set}
 use Rattle.std.proofs.lemmas.List.Elements.{All-head, All-tail}
 use Rattle.seq_base.specs.declared.tx.Tx.{Tx}
+use Rattle.client_logs.specs.Clients.{OfClient}
 use Rattle.client_logs.specs.declared.client.Client.{Client as ClientWorker}
 use Rattle.plan_text.specs.declared.plan.Arrival.{Arrival}
 use Rattle.plan_text.specs.declared.plan.Plan.{Plan}
@@ -14,22 +15,16 @@ use Rattle.plan_text.specs.Arrivals.{IsArrival}
 use Rattle.plan_text.specs.Rules.{KeepsRules}
 use Rattle.replica_seat.specs.Feed.{Fed, arrivals_for, at_turn, by_turn, put_by_turn, timed}
 use Rattle.replica_seat.specs.declared.arrivals.TimedTx.{TimedTx}
-use Rattle.thread_run.specs.declared.crew.Crew.{Crew}
-use Rattle.thread_run.specs.declared.crew.Crew.TheVariants.{Replica, Client}
 use Rattle.thread_run.specs.declared.driver.Driver.{Driver}
 use Rattle.thread_run.specs.declared.runs.Run.{Run}
 use Rattle.thread_run.specs.Concluding.{Completes, HasEnded, WentOn}
-use Rattle.thread_run.specs.Crews.{Ready}
 use Rattle.thread_run.specs.Going.{AllTaken, HasStopped, IsManned}
-use Rattle.thread_run.specs.Standing.{seen_at, seen_by}
-use Rattle.thread_run.specs.Steps.{HasHeard, Submits}
-use Rattle.thread_run.specs.Exchange.{DriverHears, Hears}
-use Rattle.thread_run.specs.Timely.{GoesFrom}
-use Rattle.thread_run.specs.Workers.{Working}
+use Rattle.thread_run.specs.Steps.{HasHeard, Submits, SubmitsAfter}
+use Rattle.thread_run.specs.Exchange.{DriverHears, ReportedClient, ReportedWorker}
 use Rattle.thread_run.proofs.ArrivalTurns.{IsLate, later_left}
-use Rattle.thread_run.proofs.WorkDone.{looked_self}
-use Rattle.thread_run.proofs.Heard.{replica_heard, taken_heard}
-use Rattle.thread_run.proofs.CrewInvariant.{Serves, manned_on}
+use Rattle.thread_run.proofs.Heard.{taken_heard}
+use Rattle.thread_run.proofs.MannedRuns.{Remains, manned_on}
+use Rattle.thread_run.proofs.Submissions.{serve_self}
 use Rattle.thread_run.proofs.Zips.{or_other, or_set, same_or, zip_back, zip_from, zip_map, zip_there}
 
 -- ---- no arrival is later than any turn
@@ -87,94 +82,63 @@ drop_by most zero ts h = h
 drop_by most (suc k) [] h = tt
 drop_by most (suc k) (t ∷ ts) h = drop_by most k ts h.1
 
--- ---- the first workers continued until they were done
+-- ---- the first clients continued until they were done
+
+pub record SoManyEnded (k : ℕ) (old new : List ClientWorker) : Type 0 where
+  pub ends : (at : ℕ) (d : ClientWorker) → at < k → Completes (get_or old at d) (get_or new at d)
+  pub others : (at : ℕ) (d : ClientWorker) → k ≤ at → get_or new at d ≡ get_or old at d
+  pub count : length new ≡ length old
+
+pub ended_none : (cs : List ClientWorker) → SoManyEnded 0 cs cs
+ended_none cs = record { ends = λ at d lt. absurd (omega (arith, lt)); others = λ at d le. refl; count = refl }
+
+pub ended_more : (k : ℕ) (old mid : List ClientWorker) (r c : ClientWorker) → SoManyEnded k old mid → k < length mid → r ≡ get_or mid k r → Completes r c → SoManyEnded (k + 1) old (slice_set mid k c)
+ended_more k old mid r c so lt value ends = record {
+  ends = λ at d below. elim (cases_Bool (k == at)) [
+    | inl yes_so ↦ (
+        let same : k ≡ at = grind (arith, nat_tests) in
+        let one : r ≡ get_or old k r = value ∙ so.others k r (omega arith) in
+        let was : get_or old k d ≡ get_or mid k d = sym (so.others k d (omega arith)) in
+        let here : get_or mid k d ≡ r = same_or mid k d r lt ∙ sym value in
+        subst (λ (j : ℕ). Completes (get_or old j d) (get_or (slice_set mid k c) j d)) same
+        (subst (Completes (get_or old k d)) (sym (or_set mid k c d lt)) (subst (λ (x : ClientWorker). Completes x c) (sym (was ∙ here)) ends)))
+    | inr not_so ↦ (
+        let other : k ≡ at → ⊥ = λ is. absurd (grind (arith, nat_tests)) in
+        let less : at < k = grind (arith, nat_tests) in
+        subst (Completes (get_or old at d)) (sym (or_other mid k at c d other)) (so.ends at d less))
+  ];
+  others = λ at d le. (let other : k ≡ at → ⊥ = λ is. absurd (omega (arith, is, le)) in or_other mid k at c d other ∙ so.others at d (omega (arith, le)));
+  count = length-set mid k c ∙ so.count;
+}
+
+pub ended_all : (k : ℕ) (old new : List ClientWorker) → length old ≤ k → SoManyEnded k old new → AllZip Completes old new
+ended_all k old new le so = zip_from Completes old new (sym so.count) (λ i d e lt. (let same = same_or new i e d (let n = so.count in omega (arith, lt, n)) in subst (Completes (get_or old i d)) (sym same) (so.ends i d (omega (arith, lt, le)))))
+
+-- ---- and then the driver
+
+remains_ended : (c d : ClientWorker) → Completes c d → Remains c d
+remains_ended c d e = (e.0, e.1)
 
 module _ {S : Type 0} where
-  pub record SoManyEnded (k : ℕ) (old new : List (Crew S)) : Type 0 where
-    pub ends : (at : ℕ) (d : Crew S) → at < k → Completes (get_or old at d) (get_or new at d)
-    pub others : (at : ℕ) (d : Crew S) → k ≤ at → get_or new at d ≡ get_or old at d
-    pub count : length new ≡ length old
-
-  pub ended_none : (cs : List (Crew S)) → SoManyEnded 0 cs cs
-  ended_none cs = record { ends = λ at d lt. absurd (omega (arith, lt)); others = λ at d le. refl; count = refl }
-
-  pub ended_more : (k : ℕ) (old mid : List (Crew S)) (r c : Crew S) → SoManyEnded k old mid → k < length mid → r ≡ get_or mid k r → Completes r c → SoManyEnded (k + 1) old (slice_set mid k c)
-  ended_more k old mid r c so lt value ends = record {
-    ends = λ at d below. elim (cases_Bool (k == at)) [
-      | inl yes_so ↦ (
-          let same : k ≡ at = grind (arith, nat_tests) in
-          let one : r ≡ get_or old k r = value ∙ so.others k r (omega arith) in
-          let was : get_or old k d ≡ get_or mid k d = sym (so.others k d (omega arith)) in
-          let here : get_or mid k d ≡ r = same_or mid k d r lt ∙ sym value in
-          subst (λ (j : ℕ). Completes (get_or old j d) (get_or (slice_set mid k c) j d)) same
-          (subst (Completes (get_or old k d)) (sym (or_set mid k c d lt)) (subst (λ (x : Crew S). Completes x c) (sym (was ∙ here)) ends)))
-      | inr not_so ↦ (
-          let other : k ≡ at → ⊥ = λ is. absurd (grind (arith, nat_tests)) in
-          let less : at < k = grind (arith, nat_tests) in
-          subst (Completes (get_or old at d)) (sym (or_other mid k at c d other)) (so.ends at d less))
-    ];
-    others = λ at d le. (let other : k ≡ at → ⊥ = λ is. absurd (omega (arith, is, le)) in or_other mid k at c d other ∙ so.others at d (omega (arith, le)));
-    count = length-set mid k c ∙ so.count;
-  }
-
-  pub ended_all : (k : ℕ) (old new : List (Crew S)) → length old ≤ k → SoManyEnded k old new → AllZip Completes old new
-  ended_all k old new le so = zip_from Completes old new (sym so.count) (λ i d e lt. (let same = same_or new i e d (let n = so.count in omega (arith, lt, n)) in subst (Completes (get_or old i d)) (sym same) (so.ends i d (omega (arith, lt, le)))))
-
-  -- ---- and then the driver
-
-  serves_ended : (c d : Crew S) → Completes c d → Serves c d
-  serves_ended (Replica v) (Replica w) e = (ap (λ (x : Working S). x.at) e, subst (Rattle.locked_log.specs.History.HasLooked v.log) (ap (λ (x : Working S). x.log) (sym e)) (looked_self v.log), λ ok. ap (λ (x : Working S). x.failed) e ∙ ok)
-  serves_ended (Client c) (Client d) e = (e.0, e.1)
-  serves_ended (Replica v) (Client d) e = absurd e
-  serves_ended (Client c) (Replica w) e = absurd e
-
-  pub ended_manned : (plan : Plan) (old new : Run S) → IsManned plan old → HasEnded old new → All (Ready old.world.logs.items old.world.boxes.items) new.crews.items → IsManned plan new
-  ended_manned plan old new m e ready =
-      manned_on plan old new.crews.items old.drivers.items m (zip_map Completes Serves serves_ended old.crews.items new.crews.items e.ended) ready m.drivers m.parts m.given
-      new (ap (λ (r : Run S). r.world) e.same) (ap (λ (r : Run S). r.due) e.same) refl (ap (λ (r : Run S). r.drivers.items) e.same)
-
-  done_heard : (c : Crew S) (d : ClientWorker) → Hears c (Client d) → ((e : ClientWorker) → c ≡ Client e → e.fault ≡ None → e.next ≡ e.count) → d.fault ≡ None → d.next ≡ d.count
-  done_heard (Client e) d h f none = h.same.2 ∙ f e refl (sym h.same.3 ∙ none) ∙ sym h.same.1
-  done_heard (Replica v) d h f none = absurd h
-
-  done_ended : (c : Crew S) (d : ClientWorker) → Completes c (Client d) → d.fault ≡ None → d.next ≡ d.count
-  done_ended (Client c) d e none = (e.2 none).1
-  done_ended (Replica v) d e none = absurd e
-
-  none_ended : (c : ClientWorker) (x : Crew S) → Completes (Client c) x → ((d : ClientWorker) → x ≡ Client d → d.fault ≡ None) → c.fault ≡ None
-  none_ended c (Client d) e f = (e.2 (f d refl)).0
-  none_ended c (Replica w) e f = absurd e
-
-  same_ended : (v : Working S) (c : Crew S) → Completes (Replica v) c → c ≡ Replica v
-  same_ended v (Replica w) e = ap Replica e
-  same_ended v (Client d) e = absurd e
-
-  one_ended : (c d : Crew S) → Completes c d → seen_by d ≡ seen_by c
-  one_ended (Replica v) (Replica w) e = ap (λ (x : Working S). x.log.seen) e
-  one_ended (Client c) (Client d) e = refl
-  one_ended (Replica v) (Client d) e = absurd e
-  one_ended (Client c) (Replica w) e = absurd e
-
-  seen_ended : (cs ds : List (Crew S)) (at : ℕ) → AllZip Completes cs ds → seen_at ds at ≡ seen_at cs at
-  seen_ended [] [] at z = refl
-  seen_ended [] (d ∷ ds) at z = absurd z
-  seen_ended (c ∷ cs) [] at z = absurd z
-  seen_ended (c ∷ cs) (d ∷ ds) zero z = one_ended c d z.0
-  seen_ended (c ∷ cs) (d ∷ ds) (suc at) z = seen_ended cs ds at z.1
+  pub ended_manned : (plan : Plan) (old new : Run S) → IsManned plan old → HasEnded old new → All (OfClient old.world.logs.items) new.clients.items → IsManned plan new
+  ended_manned plan old new m e of =
+      manned_on plan old old.workers.items new.clients.items old.drivers.items m (serve_self old.workers.items) (zip_map Completes Remains remains_ended old.clients.items new.clients.items e.ended) m.ready of
+      m.drivers m.parts m.given new (ap (λ (r : Run S). r.world) e.same) (ap (λ (r : Run S). r.due) e.same) (ap (λ (r : Run S). r.workers.items) e.same) refl (ap (λ (r : Run S). r.drivers.items) e.same)
 
   module _ (plan : Plan) (rules : KeepsRules plan) (turns : ℕ) (late : 200000 ≤ turns) (old mid new : Run S) (over : HasEnded old mid) (manned : IsManned plan mid) (h : HasHeard plan turns mid new) where
-    z : AllZip Completes old.crews.items mid.crews.items
+    z : AllZip Completes old.clients.items mid.clients.items
     z = over.ended
 
-    same : mid ≡ record old { crews = mid.crews }
+    same : mid ≡ record old { clients = mid.clients }
     same = over.same
 
     pub has_stopped : HasStopped plan new
     has_stopped = record {
       manned = h.manned;
       clients = λ k d is none.
-          let (c, there, heard) = zip_back Hears mid.crews.items new.crews.items k (Client d) h.crews is in
-          done_heard c d heard (λ e e_is e_none. (let (x, here, ended) = zip_back Completes old.crews.items mid.crews.items k (Client e) z (there ∙ ap Some e_is) in done_ended x e ended e_none)) none;
+          let (c, there, heard) = zip_back ReportedClient mid.clients.items new.clients.items k d h.clients is in
+          let (b, before, ended) = zip_back Completes old.clients.items mid.clients.items k c z there in
+          heard.same.2 ∙ (ended.2 (sym heard.same.3 ∙ none)).1 ∙ sym heard.same.1;
       drivers = λ at e is none.
           let (b, b_is, heard) = zip_back DriverHears h.between new.drivers.items at e h.heard is in
           let (a, a_is, sub) = zip_back (Submits turns) mid.drivers.items h.between at b h.submitted b_is in
@@ -189,24 +153,14 @@ module _ {S : Type 0} where
 
     pub went_on : WentOn old new
     went_on = record {
-      replicas = λ at w is.
-          let (c, here, ended) = zip_there Completes old.crews.items mid.crews.items at (Replica w) z is in
-          let there : slice_get mid.crews.items at ≡ Some (Replica w) = here ∙ ap Some (same_ended w c ended) in
-          let (x, found, heard) = zip_there Hears mid.crews.items new.crews.items at (Replica w) h.crews there in
-          let (v, is_v, reported) = replica_heard w x heard in
-          (v, found ∙ ap Some is_v, reported);
-      after = λ at e is.
-          let (d, d_is, goes) = h.after at e is in (
-            d,
-            subst (λ (ds : List Driver). slice_get ds at ≡ Some d) (ap (λ (r : Run S). r.drivers.items) same) d_is,
-            subst (λ (l : List Tx). GoesFrom (length l) d.pass e.pass) (seen_ended old.crews.items mid.crews.items at z) goes,
-          );
+      workers = subst (λ (r : Run S). AllZip ReportedWorker r.workers.items new.workers.items) same h.workers;
+      after = subst (λ (r : Run S). SubmitsAfter r.workers.items r.drivers.items new.drivers.items) same h.after;
       taken = λ t.
-          let took : AllTaken mid.drivers.items mid.crews.items = taken_heard plan turns mid new h t in record {
+          let took : AllTaken mid.drivers.items mid.clients.items = taken_heard plan turns mid new h t in record {
             drivers_took = subst (λ (ds : List Driver). (at : ℕ) (d : Driver) → slice_get ds at ≡ Some d → d.fault ≡ None) (ap (λ (r : Run S). r.drivers.items) same) took.drivers_took;
             clients_took = λ k c is.
-                let (x, here, ended) = zip_there Completes old.crews.items mid.crews.items k (Client c) z is in
-                none_ended c x ended (λ d e. took.clients_took k d (here ∙ ap Some e));
+                let (d, here, ended) = zip_there Completes old.clients.items mid.clients.items k c z is in
+                (ended.2 (took.clients_took k d here)).0;
           };
       turns = ap (λ (r : Run S). r.turns) h.same ∙ ap (λ (r : Run S). r.turns) same;
       ticks = ap (λ (r : Run S). r.ticks) h.same ∙ ap (λ (r : Run S). r.ticks) same;

@@ -7,8 +7,6 @@ use Rattle.std.proofs.lemmas.Bool.Decides.{nat_tests}
 use Rattle.std.proofs.lemmas.List.{length-append, get_or_append_left, get_or-append-add}
 use Rattle.std.proofs.lemmas.Option.{get_or_from_slice_get, same_Some, slice_get-get_or, slice_get_within}
 use Rattle.mailbox.specs.Boxes.{Sender, of}
-use Rattle.thread_run.specs.declared.crew.Crew.{Crew}
-use Rattle.thread_run.specs.declared.crew.Crew.TheVariants.{Replica, Client}
 use Rattle.thread_run.specs.Workers.{Working}
 use Rattle.thread_run.specs.Pairs.{AllCompared, Answers, AnswersAll, AnswersAt, Compared, Decided}
 use Rattle.thread_run.proofs.Zips.{some_at}
@@ -85,16 +83,19 @@ put_back {X = X} all prefix back low x y p q is one other =
     ∙ ap (λ (v : X). prefix ++ slice_set back 0 v) other ∙ ap (λ (l : List X). prefix ++ l) (same_set back 0 y) ∙ sym is
 
 -- the answer for one and itself is that at its place
-pub with_itself : {S : Type 0} (crews : List (Crew S)) (i k : ℕ) (x : Crew S) (b : Bool) → i ≡ k → i < length crews → Answers b (get_or crews i x) (get_or crews i x) → AnswersAt crews i k b
-with_itself {S = S} crews i k x b same lt a d =
-    let e : get_or crews i x ≡ get_or crews i d = get_or_from_slice_get crews i (get_or crews i d) x (slice_get-get_or crews i d lt) in
-    subst (λ (j : ℕ). Answers b (get_or crews i d) (get_or crews j d)) same (subst (λ (c : Crew S). Answers b c c) e a)
+pub with_itself : {S : Type 0} (workers : List (Working S)) (i k : ℕ) (x : Working S) (b : Bool) → i ≡ k → i < length workers → Answers b (get_or workers i x) (get_or workers i x) → AnswersAt workers i k b
+with_itself {S = S} workers i k x b same lt a d =
+    let e : get_or workers i x ≡ get_or workers i d = get_or_from_slice_get workers i (get_or workers i d) x (slice_get-get_or workers i d lt) in
+    subst (λ (j : ℕ). Answers b (get_or workers i d) (get_or workers j d)) same (subst (λ (c : Working S). Answers b c c) e a)
 
 -- where each pair was compared, each mailbox was compared with each sender
-module _ {S : Type 0} (crews : List (Crew S)) where
-  of_both : (i k : ℕ) (b : Bool) (c d : Crew S) → slice_get crews i ≡ Some c → slice_get crews k ≡ Some d → AnswersAt crews i k b → Answers b c d
-  of_both i k b c d is it a =
-      subst (λ (x : Crew S). Answers b x d) (get_or_from_slice_get crews i c c is) (subst (λ (x : Crew S). Answers b (get_or crews i c) x) (get_or_from_slice_get crews k d c it) (a c))
+module _ {S : Type 0} (workers : List (Working S)) where
+  abbrev AllAnswer : Type 0
+  AllAnswer = (i k : ℕ) (t s : Working S) → slice_get workers i ≡ Some t → slice_get workers k ≡ Some s → Answers true t s
+
+  of_both : (i k : ℕ) (b : Bool) (t s : Working S) → slice_get workers i ≡ Some t → slice_get workers k ≡ Some s → AnswersAt workers i k b → Answers b t s
+  of_both i k b t s is it a =
+      subst (λ (x : Working S). Answers b x s) (get_or_from_slice_get workers i t t is) (subst (λ (x : Working S). Answers b (get_or workers i t) x) (get_or_from_slice_get workers k s t it) (a t))
 
   -- one look says the same as another
   differ : (t s : Working S) → Compared true t.at t.take.taken s.sends → Compared false t.at t.take.taken s.sends → false ≡ true
@@ -102,32 +103,23 @@ module _ {S : Type 0} (crews : List (Crew S)) where
       let same : e.pass ≡ f.pass = same_Some e.pass f.pass (sym e.there ∙ f.there) in
       f.all.1 (subst (λ (p : Sender). of p.from t.take.taken ≡ p.sent) same (e.all.0 refl))
 
-  clash : (i k : ℕ) (c d : Crew S) → slice_get crews i ≡ Some c → slice_get crews k ≡ Some d
-      → ((i k : ℕ) (t s : Working S) → slice_get crews i ≡ Some (Replica t) → slice_get crews k ≡ Some (Replica s) → Compared true t.at t.take.taken s.sends)
-      → Answers false c d → false ≡ true
-  clash i k (Replica t) (Replica s) is it every a = differ t s (every i k t s is it) a
-  clash i k (Replica t) (Client d) is it every a = a
-  clash i k (Client c) (Replica s) is it every a = a
-  clash i k (Client c) (Client d) is it every a = a
-
-  pub all_compared : (whole : Bool) → AnswersAll crews whole → AllCompared whole crews
+  pub all_compared : (whole : Bool) → AnswersAll workers whole → AllCompared whole workers
   all_compared whole a = record { each = each; all = (yes, no whole a) }
     where
-      each : (i k : ℕ) (t s : Working S) → slice_get crews i ≡ Some (Replica t) → slice_get crews k ≡ Some (Replica s) → (b : Bool) × Compared b t.at t.take.taken s.sends
+      each : (i k : ℕ) (t s : Working S) → slice_get workers i ≡ Some t → slice_get workers k ≡ Some s → (b : Bool) × Answers b t s
       each i k t s is it =
-          let row = (a.each i (slice_get_within crews i (Replica t) is)).1 in
-          let (b, p) = row.each k (slice_get_within crews k (Replica s) it) in (b, of_both i k b (Replica t) (Replica s) is it p)
+          let row = (a.each i (slice_get_within workers i t is)).1 in
+          let (b, p) = row.each k (slice_get_within workers k s it) in (b, of_both i k b t s is it p)
 
-      yes : whole ≡ true → (i k : ℕ) (t s : Working S) → slice_get crews i ≡ Some (Replica t) → slice_get crews k ≡ Some (Replica s) → Compared true t.at t.take.taken s.sends
+      yes : whole ≡ true → AllAnswer
       yes so i k t s is it =
-          let row = a.yes so i (slice_get_within crews i (Replica t) is) in of_both i k true (Replica t) (Replica s) is it (row.yes refl k (slice_get_within crews k (Replica s) it))
+          let row = a.yes so i (slice_get_within workers i t is) in of_both i k true t s is it (row.yes refl k (slice_get_within workers k s it))
 
-      no : (w : Bool) → AnswersAll crews w
-          → ((i k : ℕ) (t s : Working S) → slice_get crews i ≡ Some (Replica t) → slice_get crews k ≡ Some (Replica s) → Compared true t.at t.take.taken s.sends) → w ≡ true
+      no : (w : Bool) → AnswersAll workers w → AllAnswer → w ≡ true
       no true b every = refl
       no false b every =
           let (i, lt, row) = b.no refl in
           let (k, lt', p) = row.no refl in
-          let (c, is) = some_at crews i lt in
-          let (d, it) = some_at crews k lt' in
-          clash i k c d is it every (of_both i k false c d is it p)
+          let (t, is) = some_at workers i lt in
+          let (s, it) = some_at workers k lt' in
+          differ t s (every i k t s is it) (of_both i k false t s is it p)

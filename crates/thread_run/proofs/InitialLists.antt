@@ -1,44 +1,27 @@
 -- The drivers, the workers and the passes at the start of a run, place by place.
-use Rattle.std.proofs.Common.{◌≡◌, ℕ, zero, suc, ◌+◌, ◌<◌, List, [], ◌∷◌, ◌++◌, length, get_or, map, refl, ap, sym, subst, ◌∙◌, append-nil, arith}
+use Rattle.std.proofs.Common.{◌≡◌, ℕ, zero, suc, ◌+◌, ◌<◌, List, [], ◌∷◌, ◌++◌, length, map, refl, ap, sym, subst, ◌∙◌, append-nil, arith}
 use Rattle.std.specs.Prelude.{All, Option, Some, slice_get, sum_by}
 use Rattle.std.specs.List.{AllZip, range_with_len}
 use Rattle.std.specs.Option.{option_to_list}
 use Rattle.std.proofs.lemmas.List.Elements.{All-head, All-tail}
 use Rattle.std.proofs.lemmas.List.Sums.{sum_by-cons}
-use Rattle.std.proofs.lemmas.Option.{same_Some, slice_get-get_or}
+use Rattle.std.proofs.lemmas.Option.{same_Some}
 use Rattle.seq_base.specs.declared.tx.Tx.{Tx}
 use Rattle.locked_log.specs.History.{Known, Opened as Log}
 use Rattle.mailbox.specs.Boxes.{IsSenderOf, Opened as Box, Sender as SendPass, Receiver, sender_in}
-use Rattle.client_logs.specs.declared.client.Client.{Client as ClientWorker}
 use Rattle.plan_text.specs.declared.plan.Arrival.{Arrival}
 use Rattle.node_core.specs.declared.entry.Entry.{Entry}
 use Rattle.replica_seat.specs.Feed.{arrivals_for}
 use Rattle.replica_seat.specs.Seats.{Seated}
 use Rattle.round_rules.specs.Journals.{deliveries, events_of}
-use Rattle.thread_run.specs.declared.crew.Crew.{Crew}
-use Rattle.thread_run.specs.declared.crew.Crew.TheVariants.{Replica, Client}
 use Rattle.thread_run.specs.declared.driver.Driver.{Driver}
 use Rattle.thread_run.specs.Finishing.{column}
 use Rattle.thread_run.specs.Going.{HasGiven}
 use Rattle.thread_run.specs.Standing.{journals_at}
-use Rattle.thread_run.specs.Starting.{IsDealt, crews_from, driver_with, drivers_from, pass_with, worker_with, workers_from}
+use Rattle.thread_run.specs.Starting.{IsDealt, driver_with, drivers_from, pass_with, worker_with, workers_from}
 use Rattle.thread_run.specs.Steps.{turns_by}
-use Rattle.thread_run.specs.Exchange.{IsAt, IsDriverOf}
+use Rattle.thread_run.specs.Exchange.{IsDriverOf}
 use Rattle.thread_run.specs.Workers.{Working}
-
--- ---- lists, place by place
-
-pub get_prefix : {A : Type 0} (xs ys : List A) (k : ℕ) (x : A) → slice_get xs k ≡ Some x → slice_get (xs ++ ys) k ≡ Some x
-get_prefix [] ys k x is = absurd (cc)
-get_prefix (y ∷ xs) ys zero x is = is
-get_prefix (y ∷ xs) ys (suc k) x is = get_prefix xs ys k x is
-
-pub get_back : {A : Type 0} (xs ys : List A) (k : ℕ) → slice_get (xs ++ ys) (length xs + k) ≡ slice_get ys k
-get_back [] ys k = ap (slice_get ys) (omega arith)
-get_back (x ∷ xs) ys k = (let next : suc (length xs) + k ≡ suc (length xs + k) = omega arith in ap (slice_get (x ∷ (xs ++ ys))) next ∙ get_back xs ys k)
-
-pub all_places : {A : Type 0} (P : A → Type 0) (xs : List A) → ((k : ℕ) (x : A) → slice_get xs k ≡ Some x → P x) → All P xs
-all_places P xs each = λ k d lt. each k (get_or xs k d) (slice_get-get_or xs k d lt)
 
 -- ---- what the driver has
 
@@ -88,12 +71,6 @@ module _ (arrivals : List Arrival) where
 -- ---- workers
 
 module _ {S : Type 0} where
-  abbrev pub as_replica : Working S → Crew S
-  as_replica w = Replica w
-
-  abbrev pub as_client : ClientWorker → Crew S
-  as_client c = Client c
-
   pub workers_at : (a : ℕ) (seats : List (Seated S)) (own : List (Known Tx)) (takes : List Receiver) (rows : List (List SendPass)) (k : ℕ) (s : Seated S) (o : Known Tx) (t : Receiver) (row : List SendPass)
       → slice_get seats k ≡ Some s → slice_get own k ≡ Some o → slice_get takes k ≡ Some t → slice_get rows k ≡ Some row → slice_get (workers_from a seats own takes rows) k ≡ Some (worker_with (a + k) s o t row)
   workers_at a [] own takes rows k s o t row is io it ir = absurd (cc)
@@ -119,60 +96,39 @@ module _ {S : Type 0} where
   workers_count a (x ∷ seats) (y ∷ own) (z ∷ takes) [] io it ir = absurd (omega (arith, ir))
   workers_count a (x ∷ seats) (y ∷ own) (z ∷ takes) (r ∷ rows) io it ir = ap suc (workers_count (a + 1) seats own takes rows (omega (arith, io)) (omega (arith, it)) (omega (arith, ir)))
 
-  client_place : (cs : List ClientWorker) (k : ℕ) (c : Crew S) (n : ℕ) → slice_get (map {B = Crew S} Client cs) k ≡ Some c → IsAt n c
-  client_place [] k c n is = absurd (cc)
-  client_place (x ∷ cs) zero c n is = subst (IsAt n) (same_Some (Client x) c is) tt
-  client_place (x ∷ cs) (suc k) c n is = client_place cs k c n is
+  pub seated : (a : ℕ) (seats : List (Seated S)) (own : List (Known Tx)) (takes : List Receiver) (rows : List (List SendPass)) (k : ℕ) (w : Working S)
+      → slice_get (workers_from a seats own takes rows) k ≡ Some w → w.at ≡ a + k
+  seated a [] own takes rows k w is = absurd (cc)
+  seated a (x ∷ seats) [] takes rows k w is = absurd (cc)
+  seated a (x ∷ seats) (y ∷ own) [] rows k w is = absurd (cc)
+  seated a (x ∷ seats) (y ∷ own) (z ∷ takes) [] k w is = absurd (cc)
+  seated a (x ∷ seats) (y ∷ own) (z ∷ takes) (r ∷ rows) zero w is = ap (λ (v : Working S). v.at) (sym (same_Some (worker_with a x y z r) w is)) ∙ omega arith
+  seated a (x ∷ seats) (y ∷ own) (z ∷ takes) (r ∷ rows) (suc k) w is = seated (a + 1) seats own takes rows k w is ∙ omega arith
 
-  pub seated : (a : ℕ) (seats : List (Seated S)) (own : List (Known Tx)) (takes : List Receiver) (rows : List (List SendPass)) (cs : List ClientWorker) (k : ℕ) (c : Crew S)
-      → slice_get (crews_from (workers_from a seats own takes rows) cs) k ≡ Some c → IsAt (a + k) c
-  seated a [] own takes rows cs k c is = client_place cs k c (a + k) is
-  seated a (x ∷ seats) [] takes rows cs k c is = client_place cs k c (a + k) is
-  seated a (x ∷ seats) (y ∷ own) [] rows cs k c is = client_place cs k c (a + k) is
-  seated a (x ∷ seats) (y ∷ own) (z ∷ takes) [] cs k c is = client_place cs k c (a + k) is
-  seated a (x ∷ seats) (y ∷ own) (z ∷ takes) (r ∷ rows) cs zero c is = subst (IsAt (a + 0)) (same_Some (Replica (worker_with a x y z r)) c is) (omega arith)
-  seated a (x ∷ seats) (y ∷ own) (z ∷ takes) (r ∷ rows) cs (suc k) c is =
-      let at : a + 1 + k ≡ a + suc k = omega arith in
-      subst (λ (n : ℕ). IsAt n c) at (seated (a + 1) seats own takes rows cs k c is)
-
-  pub client_of : (ws : List (Working S)) (cs : List ClientWorker) (k : ℕ) (c : ClientWorker) → slice_get (crews_from ws cs) k ≡ Some (Client c) → (j : ℕ) × (slice_get cs j ≡ Some c)
-  client_of [] [] k c is = absurd (cc)
-  client_of [] (x ∷ cs) zero c is = (0, (let same : Some (Client x) ≡ Some (Client c) = is in cc))
-  client_of [] (x ∷ cs) (suc k) c is = (let (j, at) = client_of [] cs k c is in (suc j, at))
-  client_of (w ∷ ws) cs zero c is = absurd (cc)
-  client_of (w ∷ ws) cs (suc k) c is = client_of ws cs k c is
-
-  pub no_turns : (crews : List (Crew S)) (a n : ℕ) → ((at : ℕ) → at < a + n → journals_at crews at ≡ []) → sum_by (λ at. deliveries (events_of (journals_at crews at))) (range_with_len a n) ≡ 0
-  no_turns crews a zero none = refl
-  no_turns crews a (suc n) none =
-      let one : deliveries (events_of (journals_at crews a)) ≡ 0 = ap (λ (j : List Entry). deliveries (events_of j)) (none a (omega arith)) in
-      let sum = sum_by-cons (λ (at : ℕ). deliveries (events_of (journals_at crews at))) a (range_with_len (a + 1) n) in
-      let rest = no_turns crews (a + 1) n (λ at lt. none at (omega (arith, lt))) in
+  pub no_turns : (workers : List (Working S)) (a n : ℕ) → ((at : ℕ) → at < a + n → journals_at workers at ≡ []) → sum_by (λ at. deliveries (events_of (journals_at workers at))) (range_with_len a n) ≡ 0
+  no_turns workers a zero none = refl
+  no_turns workers a (suc n) none =
+      let one : deliveries (events_of (journals_at workers a)) ≡ 0 = ap (λ (j : List Entry). deliveries (events_of j)) (none a (omega arith)) in
+      let sum = sum_by-cons (λ (at : ℕ). deliveries (events_of (journals_at workers at))) a (range_with_len (a + 1) n) in
+      let rest = no_turns workers (a + 1) n (λ at lt. none at (omega (arith, lt))) in
       omega (arith, sum, one, rest)
 
   -- once no seat is left, all workers are there
-  pub none_left : (crews whole : List (Crew S)) (at : ℕ) (seats : List (Seated S)) (own : List (Known Tx)) (takes : List Receiver) (rows : List (List SendPass)) → length seats ≡ 0
-      → crews ++ map Replica (workers_from at seats own takes rows) ≡ whole → crews ≡ whole
-  none_left crews whole at [] own takes rows none is = sym (append-nil crews) ∙ is
-  none_left crews whole at (s ∷ seats) own takes rows none is = absurd (omega (arith, none))
+  pub none_left : (workers whole : List (Working S)) (at : ℕ) (seats : List (Seated S)) (own : List (Known Tx)) (takes : List Receiver) (rows : List (List SendPass)) → length seats ≡ 0
+      → workers ++ workers_from at seats own takes rows ≡ whole → workers ≡ whole
+  none_left workers whole at [] own takes rows none is = sym (append-nil workers) ∙ is
+  none_left workers whole at (s ∷ seats) own takes rows none is = absurd (omega (arith, none))
 
   -- nothing was delivered
-  pub no_deliveries : (a : ℕ) (seats : List (Seated S)) (own : List (Known Tx)) (takes : List Receiver) (rows : List (List SendPass)) → sum_by turns_by (map as_replica (workers_from a seats own takes rows)) ≡ 0
+  pub no_deliveries : (a : ℕ) (seats : List (Seated S)) (own : List (Known Tx)) (takes : List Receiver) (rows : List (List SendPass)) → sum_by turns_by (workers_from a seats own takes rows) ≡ 0
   no_deliveries a [] own takes rows = refl
   no_deliveries a (x ∷ seats) [] takes rows = refl
   no_deliveries a (x ∷ seats) (y ∷ own) [] rows = refl
   no_deliveries a (x ∷ seats) (y ∷ own) (z ∷ takes) [] = refl
   no_deliveries a (x ∷ seats) (y ∷ own) (z ∷ takes) (r ∷ rows) =
-      let sum = sum_by-cons turns_by (as_replica (worker_with a x y z r)) (map as_replica (workers_from (a + 1) seats own takes rows)) in
+      let sum = sum_by-cons turns_by (worker_with a x y z r) (workers_from (a + 1) seats own takes rows) in
       let rest = no_deliveries (a + 1) seats own takes rows in
       omega (arith, sum, rest)
-
-pub no_client_delivers : (S : Type 0) (cs : List ClientWorker) → sum_by turns_by (map (as_client {S = S}) cs) ≡ 0
-no_client_delivers S [] = refl
-no_client_delivers S (c ∷ cs) =
-    let sum = sum_by-cons turns_by (as_client {S = S} c) (map as_client cs) in
-    let rest = no_client_delivers S cs in
-    omega (arith, sum, rest)
 
 -- ---- passes of mailboxes
 

@@ -1,19 +1,17 @@
 -- The start of a run is a state between two rounds.
-use Rattle.std.proofs.Common.{◌≡◌, ℕ, zero, suc, ◌+◌, ◌<◌, List, [], ◌∷◌, ◌++◌, length, map, refl, ap, sym, subst, ◌∙◌, length-append, arith}
+use Rattle.std.proofs.Common.{◌≡◌, ℕ, ◌+◌, ◌<◌, List, [], ◌∷◌, length, map, refl, ap, sym, subst, ◌∙◌, arith}
 use Rattle.std.specs.Prelude.{All, Option, Some, slice_get, sum_by}
 use Rattle.std.specs.List.{AllZip, range_with_len}
 use Rattle.std.specs.Option.{option_map, option_map_or}
 use Rattle.std.proofs.lemmas.List.{length-map}
 use Rattle.std.proofs.lemmas.List.FromFn.{length-range_with_len}
-use Rattle.std.proofs.lemmas.List.Elements.{All-append, All-cons, All-nil}
-use Rattle.std.proofs.lemmas.List.Sums.{sum_by-append}
+use Rattle.std.proofs.lemmas.List.Elements.{All-nil}
 use Rattle.std.proofs.lemmas.Option.{same_Some, slice_get-map, slice_get_within}
 use Rattle.seq_base.specs.declared.tx.Tx.{Tx}
 use Rattle.locked_log.specs.History.{Known, Opened as Log, times}
 use Rattle.mailbox.specs.Boxes.{Opened as Box, Sender as SendPass, Receiver, sender_in, receiver_in}
-use Rattle.client_logs.specs.declared.client.Client.{Client as ClientWorker}
+use Rattle.client_logs.specs.Clients.{OfClient}
 use Rattle.fault_script.specs.Sealing.{Signer, signer}
-use Rattle.plan_text.specs.declared.plan.Client.{Client as Sender}
 use Rattle.plan_text.specs.declared.plan.Plan.{Plan}
 use Rattle.run_record.specs.Done.{due_of}
 use Rattle.node_core.specs.Rows.{Check}
@@ -24,23 +22,19 @@ use Rattle.replica_seat.specs.Opening.{fresh_replica}
 use Rattle.replica_seat.specs.Seats.{Meaning, Replica as Shape, Seated, replica_of}
 use Rattle.round_rules.specs.Journals.{events_of, ticks_in}
 use Rattle.round_rules.specs.Moments.{everyone}
-use Rattle.thread_run.specs.declared.crew.Crew.{Crew}
-use Rattle.thread_run.specs.declared.crew.Crew.TheVariants.{Replica, Client}
 use Rattle.thread_run.specs.declared.driver.Driver.{Driver}
 use Rattle.thread_run.specs.declared.runs.Run.{Run}
-use Rattle.thread_run.specs.Crews.{Ready}
 use Rattle.thread_run.specs.Finishing.{column}
-use Rattle.thread_run.specs.Going.{HasGiven, IsGoing, IsManned}
+use Rattle.thread_run.specs.Going.{HasGiven, IsClientOf, IsGoing, IsManned}
 use Rattle.thread_run.specs.Signers.{fresh_signers}
 use Rattle.thread_run.specs.Standing.{IsNew, journal_of, journals_at}
-use Rattle.thread_run.specs.Starting.{IsDealt, IsNewClient, crews_from, drivers_from, pass_with, worker_with, workers_from}
+use Rattle.thread_run.specs.Starting.{IsDealt, IsNewClient, drivers_from, pass_with, worker_with, workers_from}
 use Rattle.thread_run.specs.Steps.{IsCounted, turns_by}
-use Rattle.thread_run.specs.Exchange.{IsAt, IsDriverOf}
-use Rattle.thread_run.specs.Workers.{Did, IsOf, Working}
+use Rattle.thread_run.specs.Exchange.{IsDriverOf}
+use Rattle.thread_run.specs.Workers.{Did, IsOf, Ready, Working}
 use Rattle.thread_run.proofs.WorkDone.{did_nothing}
-use Rattle.thread_run.proofs.InitialLists.{all_places, as_client, as_replica, client_of, column_at, drivers_of_logs, fresh_at, get_back, get_prefix, given_at, no_client_delivers, no_deliveries, no_turns, parts_of_logs, seated, senders_of, workers_at, workers_count}
-use Rattle.client_logs.proofs.Zips.{zip_length}
-use Rattle.thread_run.proofs.Zips.{all_at, range_at, some_at}
+use Rattle.thread_run.proofs.InitialLists.{column_at, drivers_of_logs, fresh_at, given_at, no_deliveries, no_turns, parts_of_logs, seated, senders_of, workers_at, workers_count}
+use Rattle.thread_run.proofs.Zips.{all_at, all_places, range_at, some_at, zip_back, zip_map}
 
 -- a seat for each replica
 pub seats_count : {S A : Type 0} (plan : Plan) (m : Meaning S) (shape : A → Signer) (sealers : List A) (seats : List (Seated S)) → map (λ s. (shape s).replica) sealers ≡ everyone plan
@@ -50,7 +44,7 @@ seats_count plan m shape sealers seats places are =
 
 -- ---- the whole
 
-module _ {S A : Type 0} (plan : Plan) (run : Run S) (m : Meaning S) (shape : A → Signer) (sealers : List A) (seats : List (Seated S)) (takes : List Receiver) (rows : List (List SendPass)) (cs : List ClientWorker)
+module _ {S A : Type 0} (plan : Plan) (run : Run S) (m : Meaning S) (shape : A → Signer) (sealers : List A) (seats : List (Seated S)) (takes : List Receiver) (rows : List (List SendPass))
     (some : 0 < plan.setting.n)
     (places : map (λ s. (shape s).replica) sealers ≡ everyone plan)
     (seats_are : map (replica_of m) seats ≡ map (λ s. fresh_replica plan (shape s)) sealers)
@@ -60,9 +54,9 @@ module _ {S A : Type 0} (plan : Plan) (run : Run S) (m : Meaning S) (shape : A �
     (boxes_senders : All (λ b. b.senders ≡ plan.setting.n) run.world.boxes.items)
     (takes_are : takes ≡ map (λ b. receiver_in b []) run.world.boxes.items)
     (dealt : AllZip (IsDealt plan.setting.n) run.world.boxes.items rows)
-    (clients : AllZip (IsNewClient run.world.logs.items) plan.clients cs)
+    (clients : AllZip (IsNewClient run.world.logs.items) plan.clients run.clients.items)
     (drivers_are : run.drivers.items ≡ drivers_from plan.arrivals 0 (map (pass_with 2) run.world.logs.items))
-    (crews_are : run.crews.items ≡ crews_from (workers_from 0 seats (map (pass_with 1) run.world.logs.items) takes (map (λ k. column k rows) (range_with_len 0 plan.setting.n))) cs)
+    (workers_are : run.workers.items ≡ workers_from 0 seats (map (pass_with 1) run.world.logs.items) takes (map (λ k. column k rows) (range_with_len 0 plan.setting.n)))
     (due_is : run.due ≡ due_of plan.setting.n plan.faulty (map (λ s. s.feed.txs) seats))
     (turns_none : run.turns ≡ 0) where
   abbrev n : ℕ
@@ -130,16 +124,14 @@ module _ {S A : Type 0} (plan : Plan) (run : Run S) (m : Meaning S) (shape : A �
         worker = workers_at 0 seats own takes sends at s (pass_with 1 l) (receiver_in b []) (column at rows) is io it ir ∙ ap (λ (k : ℕ). Some (worker_with k s (pass_with 1 l) (receiver_in b []) (column at rows))) none;
       }
 
-  in_crews : (at : ℕ) (w : Working S) → slice_get ws at ≡ Some w → slice_get run.crews.items at ≡ Some (Replica w)
-  in_crews at w is =
-      ap (λ (l : List (Crew S)). slice_get l at) crews_are
-      ∙ get_prefix (map {B = Crew S} Replica ws) (map Client cs) at (Replica w) (slice_get-map as_replica ws at ∙ ap (option_map as_replica) is)
+  in_run : (at : ℕ) (w : Working S) → slice_get ws at ≡ Some w → slice_get run.workers.items at ≡ Some w
+  in_run at w is = ap (λ (l : List (Working S)). slice_get l at) workers_are ∙ is
 
-  worker_ready : (at : ℕ) → at < n → (w : Working S) → slice_get ws at ≡ Some w → Ready logs boxes (Replica w)
+  worker_ready : (at : ℕ) → at < n → (w : Working S) → slice_get ws at ≡ Some w → Ready logs boxes w
   worker_ready at lt w is =
       let a : AtPlace at = at_place at lt in
       let same : worker_with at a.seat (pass_with 1 a.log) (receiver_in a.box []) (column at rows) ≡ w = same_Some (worker_with at a.seat (pass_with 1 a.log) (receiver_in a.box []) (column at rows)) w (sym a.worker ∙ is) in
-      subst (λ (x : Working S). Ready logs boxes (Replica x)) same (
+      subst (Ready logs boxes) same (
         record {
           log = (a.log, a.is_log, refl);
           take = (a.box, a.is_box, (refl, refl), all_at (λ (b : Box). b.senders ≡ n) boxes at a.box boxes_senders a.is_box ∙ sym boxes_count);
@@ -150,37 +142,11 @@ module _ {S A : Type 0} (plan : Plan) (run : Run S) (m : Meaning S) (shape : A �
         omega arith,
       )
 
-  workers_ready : All (Ready logs boxes) (map {B = Crew S} Replica ws)
-  workers_ready = all_places (Ready logs boxes) (map {B = Crew S} Replica ws) each
-    where
-      each : (k : ℕ) (c : Crew S) → slice_get (map {B = Crew S} Replica ws) k ≡ Some c → Ready logs boxes c
-      each k c is =
-          let lt = slice_get_within (map {B = Crew S} Replica ws) k c is in
-          let len = length-map ws (as_replica {S = S}) in
-          let count = worker_count in
-          let below : k < n = omega (arith, lt, len, count) in
-          let a : AtPlace k = at_place k below in
-          let w : Working S = worker_with k a.seat (pass_with 1 a.log) (receiver_in a.box []) (column k rows) in
-          let same : Replica w ≡ c = same_Some (Replica w) c (sym (slice_get-map as_replica ws k ∙ ap (option_map as_replica) a.worker) ∙ is) in
-          subst (Ready logs boxes) same (worker_ready k below w a.worker)
-
-  clients_ready : (ps : List Sender) (ds : List ClientWorker) → AllZip (IsNewClient logs) ps ds → All (Ready logs boxes) (map {B = Crew S} Client ds)
-  clients_ready [] [] z = All-nil (Ready logs boxes)
-  clients_ready [] (d ∷ ds) z = absurd z
-  clients_ready (p ∷ ps) [] z = absurd z
-  clients_ready (p ∷ ps) (d ∷ ds) z = All-cons (Ready logs boxes) (Client d) (map Client ds) z.0.of (clients_ready ps ds z.1)
-
-  client_at : (ps : List Sender) (ds : List ClientWorker) (k : ℕ) (p : Sender) → AllZip (IsNewClient logs) ps ds → slice_get ps k ≡ Some p → (c : ClientWorker) × (slice_get ds k ≡ Some c) × IsNewClient logs p c
-  client_at [] ds k p z is = absurd (cc)
-  client_at (x ∷ ps) [] k p z is = absurd z
-  client_at (x ∷ ps) (d ∷ ds) zero p z is = (d, refl, subst (λ (y : Sender). IsNewClient logs y d) (same_Some x p is) z.0)
-  client_at (x ∷ ps) (d ∷ ds) (suc k) p z is = client_at ps ds k p z.1 is
-
-  following : (k : ℕ) (c : ClientWorker) → slice_get cs k ≡ Some c → slice_get run.crews.items (n + k) ≡ Some (Client c)
-  following k c is =
-      let place : n + k ≡ length (map {B = Crew S} Replica ws) + k = (let len = length-map ws (as_replica {S = S}) in let count = worker_count in omega (arith, len, count)) in
-      ap (λ (l : List (Crew S)). slice_get l (n + k)) crews_are ∙ ap (slice_get (crews_from ws cs)) place
-      ∙ get_back (map {B = Crew S} Replica ws) (map Client cs) k ∙ slice_get-map as_client cs k ∙ ap (option_map as_client) is
+  workers_ready : All (Ready logs boxes) ws
+  workers_ready = all_places (Ready logs boxes) ws (λ k w is. (
+      let lt = slice_get_within ws k w is in
+      let count = worker_count in
+      worker_ready k (omega (arith, lt, count)) w is))
 
   feeds_are : map (λ (s : Seated S). s.feed.txs) seats ≡ map (λ at. txs_of (timed_for plan at)) (everyone plan)
   unfolding feed_of
@@ -199,22 +165,14 @@ module _ {S A : Type 0} (plan : Plan) (run : Run S) (m : Meaning S) (shape : A �
   manned = record {
     logs = logs_count;
     boxes = boxes_count;
-    crews = (
-        let both = length-append (map {B = Crew S} Replica ws) (map Client cs) in
-        let one = length-map ws (as_replica {S = S}) in
-        let two = length-map cs (as_client {S = S}) in
-        let count = worker_count in
-        let senders = zip_length (IsNewClient logs) plan.clients cs clients in
-        let all = ap length crews_are in
-        omega (arith, all, both, one, two, count, senders));
-    ready = subst (All (Ready logs boxes)) (sym crews_are) (All-append (Ready logs boxes) (map Replica ws) (map Client cs) workers_ready (clients_ready plan.clients cs clients));
-    seats = λ k c is. (
-        let none : 0 + k ≡ k = omega arith in
-        subst (λ (i : ℕ). IsAt i c) none (seated 0 seats own takes sends cs k c (ap (λ (l : List (Crew S)). slice_get l k) (sym crews_are) ∙ is)));
+    workers = ap length workers_are ∙ worker_count;
+    ready = subst (All (Ready logs boxes)) (sym workers_are) workers_ready;
+    of = all_places (OfClient logs) run.clients.items (λ k c is. (let (p, there, new) = zip_back (IsNewClient logs) plan.clients run.clients.items k c clients is in new.of));
+    seats = λ k w is. seated 0 seats own takes sends k w (ap (λ (l : List (Working S)). slice_get l k) (sym workers_are) ∙ is) ∙ omega arith;
     replicas = λ at lt. (
         let a : AtPlace at = at_place at lt in
-        (worker_with at a.seat (pass_with 1 a.log) (receiver_in a.box []) (column at rows), in_crews at _ a.worker, (refl, refl), refl));
-    clients = λ k p is. (let (c, at, new) = client_at plan.clients cs k p clients is in (c, following k c at, new.id, new.count));
+        (worker_with at a.seat (pass_with 1 a.log) (receiver_in a.box []) (column at rows), in_run at _ a.worker, (refl, refl), refl));
+    clients = zip_map (IsNewClient logs) IsClientOf (λ p c new. (new.id, new.count)) plan.clients run.clients.items clients;
     drivers = subst (AllZip IsDriverOf logs) (sym drivers_are) (drivers_of_logs plan.arrivals 0 logs);
     parts = subst (AllZip (λ l d. l.parts ≡ d.pass.parts + 1 + length plan.clients) logs) (sym drivers_are) (parts_of_logs plan.arrivals (length plan.clients) 0 logs logs_parts);
     given = λ at d is. (
@@ -226,12 +184,10 @@ module _ {S A : Type 0} (plan : Plan) (run : Run S) (m : Meaning S) (shape : A �
   pub counted : run.ticks ≡ 0 → IsCounted plan run
   counted no_ticks = record {
     turns = (
-        let all : sum_by turns_by run.crews.items ≡ sum_by turns_by (map as_replica ws ++ map as_client cs) = ap (sum_by turns_by) crews_are in
-        let both = sum_by-append turns_by (map as_replica ws) (map as_client cs) in
+        let all : sum_by turns_by run.workers.items ≡ sum_by turns_by ws = ap (sum_by turns_by) workers_are in
         let one = no_deliveries 0 seats own takes sends in
-        let two = no_client_delivers S cs in
         let none = turns_none in
-        omega (arith, all, both, one, two, none));
+        omega (arith, all, one, none));
     few = (let none = turns_none in let more = some in omega (arith, none, more));
     few_ticks = omega (arith, no_ticks);
   }
@@ -253,10 +209,10 @@ module _ {S A : Type 0} (plan : Plan) (run : Run S) (m : Meaning S) (shape : A �
         two [] = refl
         two (s ∷ ss) = ap (λ (l : List Shape). fresh_replica plan (shape s) ∷ l) (two ss)
 
-    no_journal : (at : ℕ) → at < n → journals_at run.crews.items at ≡ []
+    no_journal : (at : ℕ) → at < n → journals_at run.workers.items at ≡ []
     no_journal at lt =
         let a : AtPlace at = at_place at lt in
-        ap (λ (o : Option (Crew S)). option_map_or journal_of o []) (in_crews at _ a.worker) ∙ ap (λ (r : Shape). r.journal) (seat_is at a.seat lt a.is_seat)
+        ap (λ (o : Option (Working S)). option_map_or journal_of o []) (in_run at _ a.worker) ∙ ap (λ (r : Shape). r.journal) (seat_is at a.seat lt a.is_seat)
 
     new_worker : (at : ℕ) → (lt : at < n) → IsNew plan m (gives at) capacity at (worker_with at (at_place at lt).seat (pass_with 1 (at_place at lt).log) (receiver_in (at_place at lt).box []) (column at rows))
     new_worker at lt = record {
@@ -278,18 +234,18 @@ module _ {S A : Type 0} (plan : Plan) (run : Run S) (m : Meaning S) (shape : A �
           let w : Working S = worker_with at (at_place at lt).seat (pass_with 1 (at_place at lt).log) (receiver_in (at_place at lt).box []) (column at rows) in
           let journal : [] ≡ w.seat.journal = sym (ap (λ (r : Shape). r.journal) (seat_is at (at_place at lt).seat lt (at_place at lt).is_seat)) in (
             w,
-            in_crews at w (at_place at lt).worker,
+            in_run at w (at_place at lt).worker,
             record {
               first = w;
               new = new_worker at lt;
               did = subst (λ (j : List Entry). Did fits plan m (events_of j) w w) journal (did_nothing fits plan m w);
             },
           ));
-      turns = turns_none ∙ sym (no_turns run.crews.items 0 n (λ at lt. no_journal at (omega (arith, lt))));
+      turns = turns_none ∙ sym (no_turns run.workers.items 0 n (λ at lt. no_journal at (omega (arith, lt))));
       few = (let none = turns_none in let more = some in omega (arith, none, more));
       next = λ k c is fault. (
-          let (j, at) = client_of ws cs k c (ap (λ (l : List (Crew S)). slice_get l k) (sym crews_are) ∙ is) in
-          let zero_next = next_none plan.clients cs j c clients at in
+          let (p, there, new) = zip_back (IsNewClient logs) plan.clients run.clients.items k c clients is in
+          let zero_next = new.next in
           omega (arith, zero_next));
       timely = record {
         ticked = λ at lt. ap (λ (j : List Entry). ticks_in (events_of j)) (no_journal at lt);
@@ -303,10 +259,3 @@ module _ {S A : Type 0} (plan : Plan) (run : Run S) (m : Meaning S) (shape : A �
         fresh at d is =
             let none : 0 + at ≡ at = omega arith in
             subst (λ (i : ℕ). (d.pass.own ≡ []) × (d.feed.left ≡ arrivals_for plan.arrivals i)) none (fresh_at plan.arrivals 0 logs at d (ap (λ (l : List Driver). slice_get l at) (sym drivers_are) ∙ is))
-
-        next_none : (ps : List Sender) (ds : List ClientWorker) (j : ℕ) (c : ClientWorker) → AllZip (IsNewClient logs) ps ds → slice_get ds j ≡ Some c → c.next ≡ 0
-        next_none [] [] j c z is = absurd (cc)
-        next_none [] (d ∷ ds) j c z is = absurd z
-        next_none (p ∷ ps) [] j c z is = absurd (cc)
-        next_none (p ∷ ps) (d ∷ ds) zero c z is = ap (λ (x : ClientWorker). x.next) (sym (same_Some d c is)) ∙ z.0.next
-        next_none (p ∷ ps) (d ∷ ds) (suc j) c z is = next_none ps ds j c z.1 is

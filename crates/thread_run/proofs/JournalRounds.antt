@@ -1,6 +1,6 @@
 -- A round of all workers is a round of their journals. What comparisons of mailboxes with senders prove holds of the
 -- journals.
-use Rattle.std.proofs.Common.{◌≡◌, ℕ, ◌≤◌, Bool, true, false, Option, List, [], ◌++◌, length, take, refl, ap, sym, subst, ◌∙◌}
+use Rattle.std.proofs.Common.{◌≡◌, ℕ, ◌≤◌, Bool, true, Option, List, [], ◌++◌, length, take, refl, ap, sym, subst, ◌∙◌}
 use Rattle.std.specs.Prelude.{Some, slice_get}
 use Rattle.std.specs.List.{AllZip}
 use Rattle.std.specs.Option.{option_map_or}
@@ -13,23 +13,20 @@ use Rattle.replica_seat.specs.Seats.{Meaning, Seated, replica_of}
 use Rattle.round_rules.specs.Journals.{events_of}
 use Rattle.round_rules.specs.Moments.{IsWhole}
 use Rattle.round_rules.specs.Ran.{AreLinked}
-use Rattle.round_rules.specs.Rounds.{Gains, IsRound, tick_of}
-use Rattle.thread_run.specs.Crews.{Worked}
+use Rattle.round_rules.specs.Rounds.{IsRound, tick_of}
 use Rattle.thread_run.specs.Pairs.{AllCompared, Compared}
 use Rattle.thread_run.specs.Standing.{AllStand, NoneFailed, Stands, journal_of, journals_at, seen_at, seen_by}
 use Rattle.thread_run.specs.Exchange.{ReportedWorker}
-use Rattle.thread_run.specs.Workers.{Did, Working, knows, taken_with}
-use Rattle.thread_run.specs.declared.crew.Crew.{Crew}
-use Rattle.thread_run.specs.declared.crew.Crew.TheVariants.{Replica, Client}
+use Rattle.thread_run.specs.Workers.{Did, Worked, Working, knows, taken_with}
 use Rattle.thread_run.proofs.WorkDone.{looked_on, take_prefix}
 use Rattle.thread_run.proofs.WorkerInvariant.{all_given, gains, linked, stands_on}
 use Rattle.thread_run.proofs.Zips.{zip_there}
 
-pub journal_is : {S : Type 0} (crews : List (Crew S)) (at : ℕ) (w : Working S) → slice_get crews at ≡ Some (Replica w) → journals_at crews at ≡ w.seat.journal
-journal_is crews at w is = ap (λ (o : Option (Crew _)). option_map_or journal_of o []) is
+pub journal_is : {S : Type 0} (workers : List (Working S)) (at : ℕ) (w : Working S) → slice_get workers at ≡ Some w → journals_at workers at ≡ w.seat.journal
+journal_is workers at w is = ap (λ (o : Option (Working _)). option_map_or journal_of o []) is
 
-pub seen_is : {S : Type 0} (crews : List (Crew S)) (at : ℕ) (w : Working S) → slice_get crews at ≡ Some (Replica w) → seen_at crews at ≡ w.log.seen
-seen_is crews at w is = ap (λ (o : Option (Crew _)). option_map_or seen_by o []) is
+pub seen_is : {S : Type 0} (workers : List (Working S)) (at : ℕ) (w : Working S) → slice_get workers at ≡ Some w → seen_at workers at ≡ w.log.seen
+seen_is workers at w is = ap (λ (o : Option (Working _)). option_map_or seen_by o []) is
 
 module _ {S : Type 0} (fits : Check) (plan : Plan) (m : Meaning S) (gives : ℕ → Gives) (capacity : ℕ) where
   abbrev StandsAt : ℕ → Working S → Type 0
@@ -37,51 +34,38 @@ module _ {S : Type 0} (fits : Check) (plan : Plan) (m : Meaning S) (gives : ℕ 
 
   -- ---- a round
 
-  worked_on : (logs : List Log) (boxes : List Box) (tick : Option ℕ) (at : ℕ) (v : Working S) (c : Crew S) → StandsAt at v → Worked fits plan m logs boxes tick (Replica v) c
-      → ((w : Working S) → c ≡ Replica w → w.failed ≡ false)
-      → (w : Working S) × (c ≡ Replica w) × StandsAt at w × Gains tick v.log.seen v.seat.journal w.seat.journal
-  worked_on logs boxes tick at v (Replica w) s k ok =
-      let works = (k (ok w refl)).0 in (
-        w,
-        refl,
-        stands_on fits plan m (gives at) capacity at (tick_of tick ++ works.events) v w s works.did,
-        gains fits plan m (gives at) capacity at tick v w s works,
-      )
-  worked_on logs boxes tick at v (Client c) s k ok = absurd k
-
-  pub round_stands : (logs : List Log) (boxes : List Box) (tick : Option ℕ) (old new : List (Crew S)) → AllStand fits plan m gives capacity old
+  pub round_stands : (logs : List Log) (boxes : List Box) (tick : Option ℕ) (old new : List (Working S)) → AllStand fits plan m gives capacity old
       → AllZip (Worked fits plan m logs boxes tick) old new → NoneFailed new → AllStand fits plan m gives capacity new
   round_stands logs boxes tick old new all z ok at below =
       let (v, is, s) = all at below in
-      let (c, here, k) = zip_there (Worked fits plan m logs boxes tick) old new at (Replica v) z is in
-      let (w, same, stands, gain) = worked_on logs boxes tick at v c s k (λ w e. ok at w (here ∙ ap Some e)) in
-      (w, here ∙ ap Some same, stands)
+      let (w, here, k) = zip_there (Worked fits plan m logs boxes tick) old new at v z is in
+      let works = (k (ok at w here)).0 in
+      (w, here, stands_on fits plan m (gives at) capacity at (tick_of tick ++ works.events) v w s works.did)
 
-  pub round_gains : (logs : List Log) (boxes : List Box) (tick : Option ℕ) (old new : List (Crew S)) → AllStand fits plan m gives capacity old
+  pub round_gains : (logs : List Log) (boxes : List Box) (tick : Option ℕ) (old new : List (Working S)) → AllStand fits plan m gives capacity old
       → AllZip (Worked fits plan m logs boxes tick) old new → NoneFailed new → IsRound plan tick (seen_at old) (journals_at old) (journals_at new)
   round_gains logs boxes tick old new all z ok at below =
       let (v, is, s) = all at below in
-      let (c, here, k) = zip_there (Worked fits plan m logs boxes tick) old new at (Replica v) z is in
-      let (w, same, stands, gain) = worked_on logs boxes tick at v c s k (λ w e. ok at w (here ∙ ap Some e)) in
-      rw (seen_is old at v is, journal_is old at v is, journal_is new at w (here ∙ ap Some same)) gain
+      let (w, here, k) = zip_there (Worked fits plan m logs boxes tick) old new at v z is in
+      rw (seen_is old at v is, journal_is old at v is, journal_is new at w here) (gains fits plan m (gives at) capacity at tick v w s (k (ok at w here)).0)
 
   -- ---- links
 
   -- where the answer is true, all links are whole
-  pub whole_is : (crews : List (Crew S)) → AllStand fits plan m gives capacity crews → AllCompared true crews → IsWhole plan (journals_at crews)
-  whole_is crews all c from to f t =
+  pub whole_is : (workers : List (Working S)) → AllStand fits plan m gives capacity workers → AllCompared true workers → IsWhole plan (journals_at workers)
+  whole_is workers all c from to f t =
       let (v, v_is, sv) = all from f in
       let (w, w_is, sw) = all to t in
       let look : Compared true w.at w.take.taken v.sends = c.all.0 refl to from w v w_is v_is in
-      rw (journal_is crews from v v_is, journal_is crews to w w_is) (all_given fits plan m gives capacity from to v w t sv sw look)
+      rw (journal_is workers from v v_is, journal_is workers to w w_is) (all_given fits plan m gives capacity from to v w t sv sw look)
 
   -- whatever the answer, what was delivered begins what the links give
-  pub links_are : (whole : Bool) (crews : List (Crew S)) → AllStand fits plan m gives capacity crews → AllCompared whole crews → AreLinked plan (journals_at crews)
-  links_are whole crews all c from to f t =
+  pub links_are : (whole : Bool) (workers : List (Working S)) → AllStand fits plan m gives capacity workers → AllCompared whole workers → AreLinked plan (journals_at workers)
+  links_are whole workers all c from to f t =
       let (v, v_is, sv) = all from f in
       let (w, w_is, sw) = all to t in
       let look = c.each to from w v w_is v_is in
-      rw (journal_is crews from v v_is, journal_is crews to w w_is) (linked fits plan m gives capacity from to v w t sv sw look.0 look.1)
+      rw (journal_is workers from v v_is, journal_is workers to w w_is) (linked fits plan m gives capacity from to v w t sv sw look.0 look.1)
 
   -- ---- what the workers are informed of between rounds
 

@@ -1,9 +1,8 @@
 pub mod AfterRounds
 pub mod ArrivalTurns
+pub mod Columns
 pub mod Comparisons
 pub mod ConsumedLists
-pub mod CrewInvariant
-pub mod CrewSplit
 pub mod DriverLog
 pub mod Dues
 pub mod Heard
@@ -16,6 +15,7 @@ pub mod LinkedSends
 pub mod ListUpdates
 pub mod LogNews
 pub mod MailNews
+pub mod MannedRuns
 pub mod MergedLogs
 pub mod OneRound
 pub mod Posts

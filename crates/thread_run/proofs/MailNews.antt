@@ -16,11 +16,8 @@ use Rattle.plan_text.specs.declared.plan.Plan.{Plan}
 use Rattle.node_core.specs.Rows.{Check}
 use Rattle.replica_seat.specs.Seats.{Meaning}
 use Rattle.round_rules.specs.Rounds.{tick_of}
-use Rattle.thread_run.specs.declared.crew.Crew.{Crew}
-use Rattle.thread_run.specs.declared.crew.Crew.TheVariants.{Replica, Client}
-use Rattle.thread_run.specs.Crews.{DeliversFew, Drained, Ready, Worked}
-use Rattle.thread_run.specs.News.{HasAllOf, Took, heard_from, heard_of, informed, worker_informed}
-use Rattle.thread_run.specs.Workers.{Belongs, Drains, Working, Works, taken_with}
+use Rattle.thread_run.specs.News.{HasAllOf, Took, heard_from, heard_of, informed}
+use Rattle.thread_run.specs.Workers.{Belongs, DeliversFew, Drained, Drains, Ready, Worked, Working, Works, taken_with}
 use Rattle.thread_run.proofs.ListUpdates.{changed, changed_all, changed_at, changed_more}
 use Rattle.thread_run.proofs.Comparisons.{of_prefix}
 
@@ -77,15 +74,14 @@ EmptyLaw = (p : Receiver) (from : ℕ) (sent : List (List ℕ)) → WasEmpty p �
 module _ {S : Type 0} where
   -- ---- a pass that hears changes in nothing else
 
-  heard_only : (at : ℕ) (t : Receiver) (c : Crew S) → heard_from at t c ≡ record t { heard = (heard_from at t c).heard }
-  heard_only at t (Replica w) = by (slice_get w.sends at)
+  heard_only : (at : ℕ) (t : Receiver) (w : Working S) → heard_from at t w ≡ record t { heard = (heard_from at t w).heard }
+  heard_only at t w = by (slice_get w.sends at)
     where
       by : (o : Option Sender) → option_map_or (heard_more t) o t ≡ record t { heard = (option_map_or (heard_more t) o t).heard }
       by None = refl
       by (Some p) = refl
-  heard_only at t (Client c) = refl
 
-  heard_all_only : (at : ℕ) (senders : List (Crew S)) (t : Receiver) → fold (heard_from at) t senders ≡ record t { heard = (fold (heard_from at) t senders).heard }
+  heard_all_only : (at : ℕ) (senders : List (Working S)) (t : Receiver) → fold (heard_from at) t senders ≡ record t { heard = (fold (heard_from at) t senders).heard }
   heard_all_only at [] t = refl
   heard_all_only at (c ∷ senders) t =
       heard_all_only at senders (heard_from at t c) ∙ ap (λ (x : Receiver). record x { heard = (fold (heard_from at) (heard_from at t c) senders).heard }) (heard_only at t c)
@@ -99,21 +95,20 @@ module _ {S : Type 0} where
     belongs_with : (w : Working S) (t : Receiver) → t ≡ record w.take { heard = t.heard } → Belongs logs boxes w → Belongs logs boxes (record w { take = t })
     belongs_with w t is b = subst (λ (x : Receiver). Belongs logs boxes (record w { take = x })) (sym is) (still_belongs w t.heard b)
 
-    belongs_informed : (senders : List (Crew S)) (w : Working S) → Belongs logs boxes w → Belongs logs boxes (worker_informed senders w)
+    belongs_informed : (senders : List (Working S)) (w : Working S) → Belongs logs boxes w → Belongs logs boxes (informed senders w)
     belongs_informed senders w b = belongs_with w (fold (heard_from w.at) w.take senders) (heard_all_only w.at senders w.take) b
 
     -- once it heard these, and once it heard itself
-    pub belongs_after : (senders : List (Crew S)) (w v : Working S) → v ≡ worker_informed senders w → Belongs logs boxes w → Belongs logs boxes v
+    pub belongs_after : (senders : List (Working S)) (w v : Working S) → v ≡ informed senders w → Belongs logs boxes w → Belongs logs boxes v
     belongs_after senders w v is b = subst (Belongs logs boxes) (sym is) (belongs_informed senders w b)
 
     pub belongs_own : (w v : Working S) → v ≡ record w { take = heard_of w.at w.take w.sends } → Belongs logs boxes w → Belongs logs boxes v
-    belongs_own w v is b = belongs_after (Replica w ∷ []) w v is b
+    belongs_own w v is b = belongs_after (w ∷ []) w v is b
 
-    ready_informed : (senders : List (Crew S)) (c : Crew S) → Ready logs boxes c → Ready logs boxes (informed senders c)
-    ready_informed senders (Replica w) r = (belongs_informed senders w r.0, r.1)
-    ready_informed senders (Client c) r = r
+    ready_informed : (senders : List (Working S)) (w : Working S) → Ready logs boxes w → Ready logs boxes (informed senders w)
+    ready_informed senders w r = (belongs_informed senders w r.0, r.1)
 
-    pub ready_changed : (senders : List (Crew S)) (k : ℕ) (cs : List (Crew S)) → All (Ready logs boxes) cs → All (Ready logs boxes) (changed (informed senders) k cs)
+    pub ready_changed : (senders : List (Working S)) (k : ℕ) (cs : List (Working S)) → All (Ready logs boxes) cs → All (Ready logs boxes) (changed (informed senders) k cs)
     ready_changed senders zero cs all = all
     ready_changed senders (suc k) [] all = all
     ready_changed senders (suc k) (c ∷ cs) all =
@@ -123,8 +118,8 @@ module _ {S : Type 0} where
   -- ---- one after another
 
   -- a worker hears of one sender more
-  pub hears_more : (senders : List (Crew S)) (k : ℕ) (d : Crew S) (first now next : Working S) → k < length senders → now ≡ worker_informed (take k senders) first
-      → next ≡ record now { take = heard_from now.at now.take (get_or senders k d) } → next ≡ worker_informed (take (k + 1) senders) first
+  pub hears_more : (senders : List (Working S)) (k : ℕ) (d : Working S) (first now next : Working S) → k < length senders → now ≡ informed (take k senders) first
+      → next ≡ record now { take = heard_from now.at now.take (get_or senders k d) } → next ≡ informed (take (k + 1) senders) first
   hears_more senders k d first now next lt is more =
       more
       ∙ ap (λ (w : Working S). record w { take = heard_from w.at w.take (get_or senders k d) }) is
@@ -132,47 +127,41 @@ module _ {S : Type 0} where
       (sym (ap (fold (heard_from first.at) first.take) (take_more senders k d lt) ∙ fold-append (heard_from first.at) first.take (take k senders) (get_or senders k d ∷ [])))
 
   -- it hears of those before it, of itself and of those after it
-  pub hears_among : (prefix back : List (Crew S)) (w one two three : Working S) → one ≡ worker_informed prefix w → two ≡ record one { take = heard_of one.at one.take one.sends } → three ≡ worker_informed back two
-      → three ≡ worker_informed (prefix ++ Replica w ∷ back) w
+  pub hears_among : (prefix back : List (Working S)) (w one two three : Working S) → one ≡ informed prefix w → two ≡ record one { take = heard_of one.at one.take one.sends } → three ≡ informed back two
+      → three ≡ informed (prefix ++ w ∷ back) w
   hears_among prefix back w one two three is own last =
       last
-      ∙ ap (worker_informed back) (own ∙ ap (λ (v : Working S). record v { take = heard_of v.at v.take v.sends }) is)
-      ∙ ap (λ (t : Receiver). record w { take = t }) (sym (fold-append (heard_from w.at) w.take prefix (Replica w ∷ back)))
+      ∙ ap (informed back) (own ∙ ap (λ (v : Working S). record v { take = heard_of v.at v.take v.sends }) is)
+      ∙ ap (λ (t : Receiver). record w { take = t }) (sym (fold-append (heard_from w.at) w.take prefix (w ∷ back)))
 
   -- what a worker sent is the same, also once it heard
-  same_from : (at : ℕ) (t : Receiver) (senders : List (Crew S)) (c : Crew S) → heard_from at t (informed senders c) ≡ heard_from at t c
-  same_from at t senders (Replica w) = refl
-  same_from at t senders (Client c) = refl
-
-  same_news : (at : ℕ) (senders : List (Crew S)) (k : ℕ) (cs : List (Crew S)) (t : Receiver) → fold (heard_from at) t (changed (informed senders) k cs) ≡ fold (heard_from at) t cs
+  same_news : (at : ℕ) (senders : List (Working S)) (k : ℕ) (cs : List (Working S)) (t : Receiver) → fold (heard_from at) t (changed (informed senders) k cs) ≡ fold (heard_from at) t cs
   same_news at senders zero cs t = refl
   same_news at senders (suc k) [] t = refl
-  same_news at senders (suc k) (c ∷ cs) t =
-      ap (λ (x : Receiver). fold (heard_from at) x (changed (informed senders) k cs)) (same_from at t senders c) ∙ same_news at senders k cs (heard_from at t c)
+  same_news at senders (suc k) (c ∷ cs) t = same_news at senders k cs (heard_from at t c)
 
-  same_informed : (senders : List (Crew S)) (k : ℕ) (cs : List (Crew S)) (c : Crew S) → informed (changed (informed senders) k cs) c ≡ informed cs c
-  same_informed senders k cs (Replica w) = ap (λ (t : Receiver). Replica (record w { take = t })) (same_news w.at senders k cs w.take)
-  same_informed senders k cs (Client c) = refl
+  same_informed : (senders : List (Working S)) (k : ℕ) (cs : List (Working S)) (c : Working S) → informed (changed (informed senders) k cs) c ≡ informed cs c
+  same_informed senders k cs w = ap (λ (t : Receiver). record w { take = t }) (same_news w.at senders k cs w.take)
 
   -- one worker more has heard
-  one_informed : (first crews new : List (Crew S)) (k : ℕ) (d : Crew S) → k < length first → crews ≡ changed (informed first) k first
-      → new ≡ slice_set crews k (informed crews (get_or crews k d)) → new ≡ changed (informed first) (k + 1) first
-  one_informed first crews new k d lt is one =
-      let now : List (Crew S) = changed (informed first) k first in
+  one_informed : (first workers new : List (Working S)) (k : ℕ) (d : Working S) → k < length first → workers ≡ changed (informed first) k first
+      → new ≡ slice_set workers k (informed workers (get_or workers k d)) → new ≡ changed (informed first) (k + 1) first
+  one_informed first workers new k d lt is one =
+      let now : List (Working S) = changed (informed first) k first in
       one
-      ∙ ap (λ (cs : List (Crew S)). slice_set cs k (informed cs (get_or cs k d))) is
+      ∙ ap (λ (cs : List (Working S)). slice_set cs k (informed cs (get_or cs k d))) is
       ∙ ap (slice_set now k) (same_informed first k first (get_or now k d) ∙ ap (informed first) (changed_at (informed first) k first d))
       ∙ changed_more (informed first) k first d lt
 
-  pub informed_more : (first crews new : List (Crew S)) (k : ℕ) → k < length first → crews ≡ changed (informed first) k first
-      → ((d : Crew S) → new ≡ slice_set crews k (informed crews (get_or crews k d))) → new ≡ changed (informed first) (k + 1) first
-  informed_more [] crews new k lt is one = absurd (omega (arith, lt))
-  informed_more (c ∷ first) crews new k lt is one = one_informed (c ∷ first) crews new k c lt is (one c)
+  pub informed_more : (first workers new : List (Working S)) (k : ℕ) → k < length first → workers ≡ changed (informed first) k first
+      → ((d : Working S) → new ≡ slice_set workers k (informed workers (get_or workers k d))) → new ≡ changed (informed first) (k + 1) first
+  informed_more [] workers new k lt is one = absurd (omega (arith, lt))
+  informed_more (c ∷ first) workers new k lt is one = one_informed (c ∷ first) workers new k c lt is (one c)
 
   -- ---- a round of workers that heard is one of the workers as they were
 
-  module _ (fits : Check) (plan : Plan) (m : Meaning S) (logs : List Log) (boxes : List Box) (tick : Option ℕ) (senders : List (Crew S)) where
-    works_on : (v w : Working S) → Works fits plan m tick (worker_informed senders v) w → Works fits plan m tick v w
+  module _ (fits : Check) (plan : Plan) (m : Meaning S) (logs : List Log) (boxes : List Box) (tick : Option ℕ) (senders : List (Working S)) where
+    works_on : (v w : Working S) → Works fits plan m tick (informed senders v) w → Works fits plan m tick v w
     works_on v w k = record {
       events = k.events;
       did = record {
@@ -188,68 +177,55 @@ module _ {S : Type 0} where
       reported = k.reported;
     }
 
-    worked_on : (c d : Crew S) → Worked fits plan m logs boxes tick (informed senders c) d → Worked fits plan m logs boxes tick c d
-    worked_on (Replica v) (Replica w) k = λ ok. (works_on v w (k ok).0, (k ok).1)
-    worked_on (Client c) (Client d) k = k
-    worked_on (Replica v) (Client d) k = absurd k
-    worked_on (Client c) (Replica w) k = absurd k
-
-  few_on : (most : ℕ) (senders : List (Crew S)) (c d : Crew S) → DeliversFew most (informed senders c) d → DeliversFew most c d
-  few_on most senders (Replica v) (Replica w) k = k
-  few_on most senders (Client c) (Client d) k = k
-  few_on most senders (Replica v) (Client d) k = absurd k
-  few_on most senders (Client c) (Replica w) k = absurd k
+    worked_on : (v w : Working S) → Worked fits plan m logs boxes tick (informed senders v) w → Worked fits plan m logs boxes tick v w
+    worked_on v w k = λ ok. (works_on v w (k ok).0, (k ok).1)
 
   -- ---- what was heard and taken
 
-  still_heard : (at : ℕ) (t : Receiver) (c : Crew S) (n : News) → Contains t.heard n → Contains (heard_from at t c).heard n
-  still_heard at t (Client c) n has = has
-  still_heard at t (Replica w) n has = by (slice_get w.sends at)
+  still_heard : (at : ℕ) (t : Receiver) (w : Working S) (n : News) → Contains t.heard n → Contains (heard_from at t w).heard n
+  still_heard at t w n has = by (slice_get w.sends at)
     where
       by : (o : Option Sender) → Contains (option_map_or (heard_more t) o t).heard n
       by None = has
       by (Some p) = Contains-append_left t.heard (news p.from p.sent ∷ []) n has
 
-  stays_heard : (at : ℕ) (senders : List (Crew S)) (t : Receiver) (n : News) → Contains t.heard n → Contains (fold (heard_from at) t senders).heard n
+  stays_heard : (at : ℕ) (senders : List (Working S)) (t : Receiver) (n : News) → Contains t.heard n → Contains (fold (heard_from at) t senders).heard n
   stays_heard at [] t n has = has
   stays_heard at (c ∷ senders) t n has = stays_heard at senders (heard_from at t c) n (still_heard at t c n has)
 
   heard_one : (at : ℕ) (t : Receiver) (s : Working S) (p : Sender) → slice_get s.sends at ≡ Some p → Contains (heard_of at t s.sends).heard (news p.from p.sent)
   heard_one at t s p there = subst (λ (o : Option Sender). Contains (option_map_or (heard_more t) o t).heard (news p.from p.sent)) (sym there) (Contains-push t.heard (news p.from p.sent))
 
-  heard_each : (at : ℕ) (senders : List (Crew S)) (t : Receiver) (k : ℕ) (s : Working S) (p : Sender) → slice_get senders k ≡ Some (Replica s) → slice_get s.sends at ≡ Some p
+  heard_each : (at : ℕ) (senders : List (Working S)) (t : Receiver) (k : ℕ) (s : Working S) (p : Sender) → slice_get senders k ≡ Some s → slice_get s.sends at ≡ Some p
       → Contains (fold (heard_from at) t senders).heard (news p.from p.sent)
   heard_each at [] t k s p is there = absurd (cc)
   heard_each at (c ∷ senders) t zero s p is there =
       stays_heard at senders (heard_from at t c) (news p.from p.sent)
-      (subst (λ (x : Crew S). Contains (heard_from at t x).heard (news p.from p.sent)) (sym (same_Some c (Replica s) is)) (heard_one at t s p there))
+      (subst (λ (x : Working S). Contains (heard_from at t x).heard (news p.from p.sent)) (sym (same_Some c s is)) (heard_one at t s p there))
   heard_each at (c ∷ senders) t (suc k) s p is there = heard_each at senders (heard_from at t c) k s p is there
 
-  took_of : EmptyLaw → (most : ℕ) (senders : List (Crew S)) (v w : Working S) → Drains most (worker_informed senders v) w → (w.turns ≡ v.turns + most) ⊎ HasAllOf senders v.at w.take.taken
+  took_of : EmptyLaw → (most : ℕ) (senders : List (Working S)) (v w : Working S) → Drains most (informed senders v) w → (w.turns ≡ v.turns + most) ⊎ HasAllOf senders v.at w.take.taken
   took_of law most senders v w (inl turns) = inl turns
   took_of law most senders v w (inr empty) =
       inr (λ k s p is there. law (record w.take { heard = (fold (heard_from v.at) v.take senders).heard }) p.from p.sent empty (heard_each v.at senders v.take k s p is there))
 
-  took_on : EmptyLaw → (most : ℕ) (senders : List (Crew S)) (c d : Crew S) → Drained most (informed senders c) d → Took most senders c d
-  took_on law most senders (Replica v) (Replica w) k = λ ok. took_of law most senders v w (k ok)
-  took_on law most senders (Client c) (Client d) k = tt
-  took_on law most senders (Replica v) (Client d) k = absurd k
-  took_on law most senders (Client c) (Replica w) k = absurd k
+  took_on : EmptyLaw → (most : ℕ) (senders : List (Working S)) (v w : Working S) → Drained most (informed senders v) w → Took most senders v w
+  took_on law most senders v w k = λ ok. took_of law most senders v w (k ok)
 
   -- ---- a round of all workers, once they heard
 
-  module _ (cs mid ds : List (Crew S)) (is : mid ≡ map (informed cs) cs) where
+  module _ (cs mid ds : List (Working S)) (is : mid ≡ map (informed cs) cs) where
     pub all_ready : (logs : List Log) (boxes : List Box) → All (Ready logs boxes) cs → All (Ready logs boxes) mid
     all_ready logs boxes all = subst (All (Ready logs boxes)) (changed_all (informed cs) cs ∙ sym is) (ready_changed logs boxes cs (length cs) cs all)
 
-    of_heard : (R Q : Crew S → Crew S → Type 0) → ((c d : Crew S) → R (informed cs c) d → Q c d) → AllZip R mid ds → AllZip Q cs ds
-    of_heard R Q f z = zip_unmap R Q (informed cs) f cs ds (subst (λ (l : List (Crew S)). AllZip R l ds) is z)
+    of_heard : (R Q : Working S → Working S → Type 0) → ((c d : Working S) → R (informed cs c) d → Q c d) → AllZip R mid ds → AllZip Q cs ds
+    of_heard R Q f z = zip_unmap R Q (informed cs) f cs ds (subst (λ (l : List (Working S)). AllZip R l ds) is z)
 
     pub all_worked : (fits : Check) (plan : Plan) (m : Meaning S) (logs : List Log) (boxes : List Box) (tick : Option ℕ) → AllZip (Worked fits plan m logs boxes tick) mid ds → AllZip (Worked fits plan m logs boxes tick) cs ds
     all_worked fits plan m logs boxes tick z = of_heard (Worked fits plan m logs boxes tick) (Worked fits plan m logs boxes tick) (worked_on fits plan m logs boxes tick cs) z
 
     pub all_few : (most : ℕ) → AllZip (DeliversFew most) mid ds → AllZip (DeliversFew most) cs ds
-    all_few most z = of_heard (DeliversFew most) (DeliversFew most) (few_on most cs) z
+    all_few most z = of_heard (DeliversFew most) (DeliversFew most) (λ v w k. k) z
 
     pub all_took : EmptyLaw → (most : ℕ) → AllZip (Drained most) mid ds → AllZip (Took most cs) cs ds
     all_took law most z = of_heard (Drained most) (Took most cs) (took_on law most cs) z

@@ -12,8 +12,6 @@ use Rattle.replica_seat.specs.Seats.{Meaning}
 use Rattle.round_rules.specs.Moments.{IsWhole, turns_at}
 use Rattle.round_rules.specs.Ran.{AreLinked}
 use Rattle.round_rules.specs.Rounds.{MayTick, ticks_of}
-use Rattle.thread_run.specs.declared.crew.Crew.{Crew}
-use Rattle.thread_run.specs.declared.crew.Crew.TheVariants.{Replica, Client}
 use Rattle.thread_run.specs.declared.driver.Driver.{Driver}
 use Rattle.thread_run.specs.declared.runs.Next.{Next}
 use Rattle.thread_run.specs.declared.runs.Next.TheVariants.{Ends, Goes}
@@ -23,24 +21,24 @@ use Rattle.thread_run.specs.Pairs.{AllCompared}
 use Rattle.thread_run.specs.Rounding.{Begins, Follows, MayGo}
 use Rattle.thread_run.specs.Standing.{AllStand, journals_at}
 use Rattle.thread_run.specs.Steps.{HasHeard, HoldAll, IsCounted, IsDecided, IsOver, IsSame, IsStep, SomeLacks, holds_by, turns_by}
-use Rattle.thread_run.specs.Exchange.{Hears}
+use Rattle.thread_run.specs.Exchange.{ReportedWorker}
 use Rattle.thread_run.specs.Timely.{IsTimely}
 use Rattle.thread_run.specs.Workers.{Working}
 use Rattle.thread_run.proofs.JournalRounds.{links_are, whole_is}
 use Rattle.thread_run.proofs.Heard.{going_heard, holds_heard, journals_heard}
-use Rattle.thread_run.proofs.CrewInvariant.{manned_on}
-use Rattle.thread_run.proofs.Submissions.{serve_self}
+use Rattle.thread_run.proofs.MannedRuns.{manned_on}
+use Rattle.thread_run.proofs.Submissions.{remain_self, serve_self}
 use Rattle.thread_run.proofs.OneRound.{floor_of_all, going_step, lacks_of}
 
-pub hold_same : {S : Type 0} (plan : Plan) (old new : Run S) → new.due ≡ old.due → new.crews.items ≡ old.crews.items → HoldAll plan new → HoldAll plan old
-hold_same plan old new due items all = λ at c is. ap (λ (d : List Tx). holds_by plan.faulty d c) (sym due) ∙ all at c (ap (λ (cs : List (Crew _)). slice_get cs at) items ∙ is)
+pub hold_same : {S : Type 0} (plan : Plan) (old new : Run S) → new.due ≡ old.due → new.workers.items ≡ old.workers.items → HoldAll plan new → HoldAll plan old
+hold_same plan old new due items all = λ at c is. ap (λ (d : List Tx). holds_by plan.faulty d c) (sym due) ∙ all at c (ap (λ (ws : List (Working _)). slice_get ws at) items ∙ is)
 
-pub lacks_same : {S : Type 0} (plan : Plan) (old new : Run S) → new.due ≡ old.due → new.crews.items ≡ old.crews.items → SomeLacks plan new → SomeLacks plan old
+pub lacks_same : {S : Type 0} (plan : Plan) (old new : Run S) → new.due ≡ old.due → new.workers.items ≡ old.workers.items → SomeLacks plan new → SomeLacks plan old
 lacks_same plan old new due items l = record {
   at = l.at;
-  crew = l.crew;
-  there = ap (λ (cs : List (Crew _)). slice_get cs l.at) (sym items) ∙ l.there;
-  lacks = ap (λ (d : List Tx). holds_by plan.faulty d l.crew) (sym due) ∙ l.lacks;
+  worker = l.worker;
+  there = ap (λ (ws : List (Working _)). slice_get ws l.at) (sym items) ∙ l.there;
+  lacks = ap (λ (d : List Tx). holds_by plan.faulty d l.worker) (sym due) ∙ l.lacks;
 }
 
 -- ---- answers
@@ -57,6 +55,10 @@ pub if_both : {A B : Type 0} (P P' Q : A → Type 0) (r : Result A B) → IfOk r
 if_both P P' Q (Ok x) p q f = f x p q
 if_both P P' Q (Err e) p q f = tt
 
+pub on_any : {A B P : Type 0} (r : Result A B) → P → OnOk r P
+on_any (Ok x) p = p
+on_any (Err e) p = tt
+
 pub on_map : {A B : Type 0} (P Q : Type 0) (r : Result A B) → OnOk r P → (P → Q) → OnOk r Q
 on_map P Q (Ok x) p f = f p
 on_map P Q (Err e) p f = tt
@@ -64,32 +66,26 @@ on_map P Q (Err e) p f = tt
 -- ---- what is counted, and that a run stays manned
 
 module _ {S : Type 0} (plan : Plan) where
-  turns_heard : (c d : Crew S) → Hears c d → turns_by d ≡ turns_by c
-  turns_heard (Replica v) (Replica w) h = ap (λ (x : Working S). x.turns) h.rest
-  turns_heard (Client c) (Client d) h = refl
-  turns_heard (Replica v) (Client d) h = absurd h
-  turns_heard (Client c) (Replica w) h = absurd h
-
-  sum_heard : (cs ds : List (Crew S)) → AllZip Hears cs ds → sum_by turns_by ds ≡ sum_by turns_by cs
+  sum_heard : (vs ws : List (Working S)) → AllZip ReportedWorker vs ws → sum_by turns_by ws ≡ sum_by turns_by vs
   sum_heard [] [] z = refl
-  sum_heard [] (d ∷ ds) z = absurd z
-  sum_heard (c ∷ cs) [] z = absurd z
-  sum_heard (c ∷ cs) (d ∷ ds) z =
-      (let one = turns_heard c d z.0 in let rest = sum_heard cs ds z.1 in let a = sum_by-cons turns_by c cs in let b = sum_by-cons turns_by d ds in omega (arith, one, rest, a, b))
+  sum_heard [] (w ∷ ws) z = absurd z
+  sum_heard (v ∷ vs) [] z = absurd z
+  sum_heard (v ∷ vs) (w ∷ ws) z =
+      (let one = ap (λ (x : Working S). x.turns) z.0.rest in let rest = sum_heard vs ws z.1 in let a = sum_by-cons turns_by v vs in let b = sum_by-cons turns_by w ws in omega (arith, one, rest, a, b))
 
   pub heard_counted : (turns : ℕ) (old new : Run S) → HasHeard plan turns old new → IsCounted plan old → IsCounted plan new
   heard_counted turns old new h counted =
       let same : new.turns ≡ old.turns = ap (λ (r : Run S). r.turns) h.same in
       let ticks : new.ticks ≡ old.ticks = ap (λ (r : Run S). r.ticks) h.same in record {
-        turns = same ∙ counted.turns ∙ sym (sum_heard old.crews.items new.crews.items h.crews);
+        turns = same ∙ counted.turns ∙ sym (sum_heard old.workers.items new.workers.items h.workers);
         few = subst (λ (k : ℕ). k < plan.turns + 32 * plan.setting.n) (sym same) counted.few;
         few_ticks = subst (λ (k : ℕ). k ≤ plan.ticks) (sym ticks) counted.few_ticks;
       }
 
   same_manned : (k : ℕ) (old new : Run S) → IsSame k old new → IsManned plan old → IsManned plan new
   same_manned k old new same man =
-      manned_on plan old old.crews.items old.drivers.items man (serve_self old.crews.items) man.ready man.drivers man.parts man.given
-      new (ap (λ (r : Run S). r.world) same.0) (ap (λ (r : Run S). r.due) same.0) same.1 (ap (λ (r : Run S). r.drivers.items) same.0)
+      manned_on plan old old.workers.items old.clients.items old.drivers.items man (serve_self old.workers.items) (remain_self old.clients.items) man.ready man.of man.drivers man.parts man.given
+      new (ap (λ (r : Run S). r.world) same.0) (ap (λ (r : Run S). r.due) same.0) same.1 (ap (λ (r : Run S). r.clients.items) same.0) (ap (λ (r : Run S). r.drivers.items) same.0)
 
   same_counted : (k : ℕ) (old new : Run S) → IsSame k old new → k ≤ plan.ticks → IsCounted plan old → IsCounted plan new
   same_counted k old new same le counted =
@@ -119,24 +115,25 @@ module _ {S : Type 0} (fits : Check) (plan : Plan) (m : Meaning S) where
     same_goes rounds ticks k old new same g =
         let drivers = ap (λ (r : Run S). r.drivers.items) same.0 in
         let turns = ap (λ (r : Run S). r.turns) same.0 in
+        let clients = ap (λ (r : Run S). r.clients.items) same.0 in
         let items = same.1 in record {
           manned = same_manned plan k old new same g.manned;
           stand = subst (AllStand fits plan m gives capacity) (sym items) g.stand;
-          turns = turns ∙ g.turns ∙ ap (λ (cs : List (Crew S)). turns_at plan (journals_at cs)) (sym items);
+          turns = turns ∙ g.turns ∙ ap (λ (ws : List (Working S)). turns_at plan (journals_at ws)) (sym items);
           few = subst (λ (t : ℕ). t < plan.turns + 32 * plan.setting.n) (sym turns) g.few;
-          next = subst (λ (cs : List (Crew S)). (i : ℕ) (c : ClientWorker) → slice_get cs i ≡ Some (Client c) → c.fault ≡ None → c.next ≡ min c.count (64 * rounds)) (sym items) g.next;
-          timely = subst (λ (t : ℕ). IsTimely plan ticks t (journals_at new.crews.items) new.drivers.items) (sym turns)
-              (subst (λ (ds : List Driver). IsTimely plan ticks old.turns (journals_at new.crews.items) ds) (sym drivers)
-              (subst (λ (cs : List (Crew S)). IsTimely plan ticks old.turns (journals_at cs) old.drivers.items) (sym items) g.timely));
-          gone = λ taken. subst (λ (cs : List (Crew S)). HasGoneOn fits plan m gives capacity rounds ticks (journals_at cs)) (sym items)
-              (g.gone (subst (λ (ds : List Driver). AllTaken ds old.crews.items) drivers (subst (AllTaken new.drivers.items) items taken)));
+          next = subst (λ (cs : List ClientWorker). (i : ℕ) (c : ClientWorker) → slice_get cs i ≡ Some c → c.fault ≡ None → c.next ≡ min c.count (64 * rounds)) (sym clients) g.next;
+          timely = subst (λ (t : ℕ). IsTimely plan ticks t (journals_at new.workers.items) new.drivers.items) (sym turns)
+              (subst (λ (ds : List Driver). IsTimely plan ticks old.turns (journals_at new.workers.items) ds) (sym drivers)
+              (subst (λ (ws : List (Working S)). IsTimely plan ticks old.turns (journals_at ws) old.drivers.items) (sym items) g.timely));
+          gone = λ taken. subst (λ (ws : List (Working S)). HasGoneOn fits plan m gives capacity rounds ticks (journals_at ws)) (sym items)
+              (g.gone (subst (λ (ds : List Driver). AllTaken ds old.clients.items) drivers (subst (AllTaken new.drivers.items) clients taken)));
         }
 
     over_of : (rounds : ℕ) (old new : Run S) → IsGoing fits plan m gives capacity (rounds + 1) old.ticks old → IsCounted plan old → IsDecided plan Ends old new → IsOver fits plan m gives capacity new
     over_of rounds old new g counted d = record {
       rounds = rounds;
       going = subst (λ (k : ℕ). IsGoing fits plan m gives capacity (rounds + 1) k new) (sym ticks) (same_goes (rounds + 1) old.ticks old.ticks old new d.0 g);
-      linked = subst (λ (cs : List (Crew S)). AreLinked plan (journals_at cs)) (sym d.0.1) (links_are fits plan m gives capacity d.1.0 old.crews.items g.stand d.1.1);
+      linked = subst (λ (ws : List (Working S)). AreLinked plan (journals_at ws)) (sym d.0.1) (links_are fits plan m gives capacity d.1.0 old.workers.items g.stand d.1.1);
       cause = by d.2;
     }
       where
@@ -146,13 +143,13 @@ module _ {S : Type 0} (fits : Check) (plan : Plan) (m : Meaning S) where
         turns : new.turns ≡ old.turns
         turns = ap (λ (r : Run S). r.turns) d.0.0
 
-        by : (HoldAll plan old ⊎ ((plan.turns ≤ old.turns) ⊎ ((plan.ticks ≤ old.ticks) × AllCompared true old.crews.items)))
-            → HoldAll plan new ⊎ ((plan.turns ≤ new.turns) ⊎ ((new.ticks ≡ plan.ticks) × IsWhole plan (journals_at new.crews.items)))
+        by : (HoldAll plan old ⊎ ((plan.turns ≤ old.turns) ⊎ ((plan.ticks ≤ old.ticks) × AllCompared true old.workers.items)))
+            → HoldAll plan new ⊎ ((plan.turns ≤ new.turns) ⊎ ((new.ticks ≡ plan.ticks) × IsWhole plan (journals_at new.workers.items)))
         by (inl all) = inl (hold_same plan new old (sym (ap (λ (r : Run S). r.due) d.0.0)) (sym d.0.1) all)
         by (inr (inl over)) = inr (inl (omega (arith, over, turns)))
         by (inr (inr c)) =
             let few = counted.few_ticks in
-            let all = c.0 in inr (inr (omega (arith, few, all, ticks), subst (λ (cs : List (Crew S)). IsWhole plan (journals_at cs)) (sym d.0.1) (whole_is fits plan m gives capacity old.crews.items g.stand c.1)))
+            let all = c.0 in inr (inr (omega (arith, few, all, ticks), subst (λ (ws : List (Working S)). IsWhole plan (journals_at ws)) (sym d.0.1) (whole_is fits plan m gives capacity old.workers.items g.stand c.1)))
 
     goes_of : (rounds : ℕ) (old new : Run S) (tick : Option ℕ) → IsGoing fits plan m gives capacity (rounds + 1) old.ticks old → IsDecided plan (Goes tick) old new → MayGo fits plan m gives capacity tick new
     goes_of rounds old new None g d = record {
@@ -167,8 +164,8 @@ module _ {S : Type 0} (fits : Check) (plan : Plan) (m : Meaning S) where
       rounds = rounds + 1;
       ticks = old.ticks;
       going = same_goes (rounds + 1) old.ticks (old.ticks + 1) old new d.0 g;
-      may = subst (λ (cs : List (Crew S)). MayTick fits plan gives capacity (journals_at cs) (Some floor)) (sym d.0.1) (record {
-        whole = whole_is fits plan m gives capacity old.crews.items g.stand d.3;
+      may = subst (λ (ws : List (Working S)). MayTick fits plan gives capacity (journals_at ws) (Some floor)) (sym d.0.1) (record {
+        whole = whole_is fits plan m gives capacity old.workers.items g.stand d.3;
         greatest = d.4 ∙ floor_of_all fits plan m gives capacity old g.manned g.stand;
         turns_left = subst (λ (t : ℕ). t < plan.turns) g.turns d.1;
         lacking = lacks_of fits plan m gives capacity old g.manned g.stand d.5;
@@ -191,8 +188,8 @@ module _ {S : Type 0} (fits : Check) (plan : Plan) (m : Meaning S) where
             go.rounds,
             subst (λ (k : ℕ). IsGoing fits plan m gives capacity (go.rounds + 1) k after) ticks
                 (going_step fits plan m gives capacity go.rounds go.ticks tick mid after heard s manned counted
-                (subst (λ n. MayTick fits plan gives capacity n tick) (sym (journals_heard old.crews.items mid.crews.items h.crews)) go.may) go.first
-                (λ taken at lt. subst (λ (t : ℕ). Rattle.round_rules.specs.Moments.Holds plan at t (64 * go.rounds) (Rattle.thread_run.specs.Standing.seen_at mid.crews.items at)) (sym same) (holds_heard fits plan m gives capacity go.rounds go.ticks old.turns old mid (omega arith) go.going h taken at lt))),
+                (subst (λ n. MayTick fits plan gives capacity n tick) (sym (journals_heard old.workers.items mid.workers.items h.workers)) go.may) go.first
+                (λ taken at lt. subst (λ (t : ℕ). Rattle.round_rules.specs.Moments.Holds plan at t (64 * go.rounds) (Rattle.thread_run.specs.Standing.seen_at mid.workers.items at)) (sym same) (holds_heard fits plan m gives capacity go.rounds go.ticks old.turns old mid (omega arith) go.going h taken at lt))),
           )
 
       by : (next : Next) → IsDecided plan next after new → Follows fits plan m first next new

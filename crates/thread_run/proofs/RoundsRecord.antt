@@ -1,6 +1,6 @@
 -- The record of a run in threads is that of a run in rounds.
-use Rattle.std.proofs.Common.{◌≡◌, ◌⊎◌, ℕ, zero, suc, ◌+◌, ◌-◌, ◌<◌, ◌≤◌, true, false, List, [], ◌∷◌, ◌++◌, length, get_or, map, take, nat_lt, refl, ap, sym, subst, ◌∙◌, inl, inr, arith, if◌then◌else◌}
-use Rattle.std.specs.Prelude.{All, Option, Some, None, slice_get}
+use Rattle.std.proofs.Common.{◌≡◌, ◌⊎◌, ℕ, zero, suc, ◌+◌, ◌<◌, ◌≤◌, true, false, List, [], ◌∷◌, ◌++◌, length, get_or, map, take, nat_lt, refl, ap, sym, subst, ◌∙◌, inl, inr, arith, if◌then◌else◌}
+use Rattle.std.specs.Prelude.{All, Option, None, slice_get}
 use Rattle.std.specs.Option.{option_map_or}
 use Rattle.std.proofs.Math.Path.{fun_ext}
 use Rattle.std.proofs.lemmas.Bool.{cases_Bool}
@@ -8,12 +8,11 @@ use Rattle.std.proofs.lemmas.Bool.Decides.{nat_tests}
 use Rattle.std.proofs.lemmas.List.{length-map}
 use Rattle.std.proofs.lemmas.List.Elements.{All-cons, All-head, All-nil, All-tail}
 use Rattle.std.proofs.lemmas.List.FromFn.{get_or-map-range_with_len, length-range_with_len}
-use Rattle.std.proofs.lemmas.Option.{get_or_from_slice_get, slice_get_past, slice_get_within}
+use Rattle.std.proofs.lemmas.Option.{get_or_from_slice_get, slice_get_past}
 use mathlib.Core.List.{IsPrefix}
 use Rattle.seq_base.specs.declared.tx.Tx.{Tx}
 use Rattle.locked_log.proofs.Lists.{prefix_trans}
 use Rattle.count_set.specs.Sets.{is_among}
-use Rattle.client_logs.specs.declared.client.Client.{Client as ClientWorker}
 use Rattle.mailbox.specs.Boxes.{Receiver}
 use Rattle.mailbox.specs.declared.envelope.Envelope.{Envelope as Letter}
 use Rattle.plan_text.specs.declared.plan.Plan.{Plan}
@@ -37,33 +36,25 @@ use Rattle.round_rules.specs.Moments.{LacksOne, Moment, batches_at, due_in, ever
 use Rattle.round_rules.specs.Ran.{AreFed, AreLinked, AreShown, AreTicked, AreTurned, HadCauses, HasEnded, HasKnownSenders, IsDone, Ran, at_tick, journal_in}
 use Rattle.round_rules.specs.Rounds.{HasGone}
 use Rattle.round_rules.specs.Submissions.{submitted_to}
-use Rattle.thread_run.specs.declared.crew.Crew.{Crew}
-use Rattle.thread_run.specs.declared.crew.Crew.TheVariants.{Replica, Client}
 use Rattle.thread_run.specs.declared.runs.Run.{Run}
 use Rattle.thread_run.specs.Concluding.{RoundLaws, WentOn}
-use Rattle.thread_run.specs.Crews.{Ready}
 use Rattle.thread_run.specs.Going.{AllTaken, HasGoneOn, IsManned, Shows}
 use Rattle.thread_run.specs.Standing.{AllStand, journal_of, journals_at, seen_at, seen_by}
 use Rattle.thread_run.specs.Steps.{HoldAll, IsOver}
-use Rattle.thread_run.specs.Exchange.{IsDriverOf}
-use Rattle.thread_run.specs.Workers.{Belongs, IsOf, Working, knows, letters_in}
+use Rattle.thread_run.specs.Exchange.{IsDriverOf, ReportedWorker}
+use Rattle.thread_run.specs.Workers.{Belongs, IsOf, Ready, Working, knows, letters_in}
 use Rattle.thread_run.proofs.Dues.{SameTxs, all_pass_same, due_same, feed_same, merge_same}
-use Rattle.thread_run.proofs.JournalRounds.{hears_stands}
+use Rattle.thread_run.proofs.Heard.{journals_heard, stands_heard}
 use Rattle.thread_run.proofs.Rooms.{merged_fit}
 use Rattle.thread_run.proofs.WorkerInvariant.{known_is, replica_is, turned}
 use Rattle.thread_run.proofs.TimelyRuns.{early_after, known_prefix, known_none_early, known_within}
 use Rattle.client_logs.proofs.Zips.{zip_length}
-use Rattle.thread_run.proofs.Zips.{all_at, some_at, zip_from}
+use Rattle.thread_run.proofs.Zips.{all_at, some_at, zip_from, zip_there}
 
 begins : (k : ℕ) (xs : List Tx) → IsPrefix (take k xs) xs
 begins zero xs = (xs, refl)
 begins (suc k) [] = ([], refl)
 begins (suc k) (x ∷ xs) = (let p = begins k xs in (p.0, ap (λ (l : List Tx). x ∷ l) p.1))
-
-no_journal : {S : Type 0} (o : Option (Crew S)) → ((w : Working S) → o ≡ Some (Replica w) → ⊥) → option_map_or journal_of o [] ≡ []
-no_journal None none = refl
-no_journal (Some (Replica w)) none = absurd (none w refl)
-no_journal (Some (Client c)) none = refl
 
 -- the arrival lists of a record are those of logs
 pub arrival_lists : {S : Type 0} (plan : Plan) (new : Run S) (run : RunRecord) → Shows plan new run → KeepsRules plan → (at : ℕ) → at < plan.setting.n → IsArrivalList (get_or run.arrivals at [])
@@ -72,12 +63,8 @@ arrival_lists plan new run shows rules at lt =
 
 -- the replicas' workers stand at their places also once the clients and the driver went on alone
 pub stand_on : {S : Type 0} (fits : Check) (plan : Plan) (m : Meaning S) (gives : ℕ → Gives) (capacity : ℕ) (old new : Run S) → IsManned plan old → WentOn old new
-    → AllStand fits plan m gives capacity old.crews.items → AllStand fits plan m gives capacity new.crews.items
-stand_on {S = S} fits plan m gives capacity old new man on stand at lt =
-    let (w, is, s) = stand at lt in
-    let (v, there, reported) = on.replicas at w is in
-    let own : Ready old.world.logs.items old.world.boxes.items (Replica w) = all_at (Ready old.world.logs.items old.world.boxes.items) old.crews.items at (Replica w) man.ready is in
-    (v, there, hears_stands fits plan m gives capacity at w v own.0.known reported s)
+    → AllStand fits plan m gives capacity old.workers.items → AllStand fits plan m gives capacity new.workers.items
+stand_on fits plan m gives capacity old new man on stand = stands_heard fits plan m gives capacity old.world.logs.items old.world.boxes.items old.workers.items new.workers.items man.ready on.workers stand
 
 -- what one of n senders put into a mailbox is delivered from one of them
 from_letters : (n : ℕ) (events : List Event) → All (IsOf n) (letters_in events) → All (IsFrom n) events
@@ -90,9 +77,9 @@ from_letters n (Tick floor ∷ events) all = All-cons (IsFrom n) (Tick floor) ev
 
 module _ {S : Type 0} (fits : Check) (plan : Plan) (m : Meaning S) (gives : ℕ → Gives) (capacity : ℕ) (laws : RoundLaws) (rules : KeepsRules plan)
     (old new : Run S) (over : IsOver fits plan m gives capacity old) (few : old.ticks ≤ plan.ticks) (on : WentOn old new) (manned : IsManned plan new)
-    (run : RunRecord) (shows : Shows plan new run) (shown : AreShown fits plan gives capacity run (journals_at new.crews.items)) where
+    (run : RunRecord) (shows : Shows plan new run) (shown : AreShown fits plan gives capacity run (journals_at new.workers.items)) where
   abbrev before : Moment
-  before = journals_at old.crews.items
+  before = journals_at old.workers.items
 
   below_or : (at : ℕ) → (at < plan.setting.n) ⊎ (plan.setting.n ≤ at)
   below_or at = elim (cases_Bool (nat_lt at plan.setting.n)) [
@@ -100,35 +87,14 @@ module _ {S : Type 0} (fits : Check) (plan : Plan) (m : Meaning S) (gives : ℕ 
     | inr not_so ↦ inr (grind (arith, nat_tests))
   ]
 
-  -- the workers after those of the replicas are those of clients, which have no journal
-  client_after : (r : Run S) → IsManned plan r → (at : ℕ) → plan.setting.n ≤ at → at < length r.crews.items → (c : ClientWorker) × (slice_get r.crews.items at ≡ Some (Client c))
-  client_after r man at le within =
-      let len = man.crews in
-      let k : ℕ = at - plan.setting.n in
-      let place : plan.setting.n + k ≡ at = omega (arith, le) in
-      let below : k < length plan.clients = omega (arith, len, within, place) in
-      let p = some_at plan.clients k below in
-      let c = man.clients k p.0 p.1 in
-      (c.0, subst (λ (i : ℕ). slice_get r.crews.items i ≡ Some (Client c.0)) place c.1)
-
-  none_after : (r : Run S) → IsManned plan r → (at : ℕ) → plan.setting.n ≤ at → journals_at r.crews.items at ≡ []
-  none_after r man at le = no_journal (slice_get r.crews.items at) (λ w is. (
-      let found = client_after r man at le (slice_get_within r.crews.items at (Replica w) is) in
-      let other : Some (Client found.0) ≡ Some (Replica w) = sym found.1 ∙ is in
-      absurd (cc)))
-
   -- the replicas' journals are as they were
-  same_before : (at : ℕ) → at < plan.setting.n → journals_at new.crews.items at ≡ before at
-  same_before at lt =
-      let (w, is, s) = over.going.stand at lt in
-      let (v, there, reported) = on.replicas at w is in
-      ap (λ (o : Option (Crew S)). option_map_or journal_of o []) there ∙ ap (λ (x : Working S). x.seat.journal) reported.rest ∙ ap (λ (o : Option (Crew S)). option_map_or journal_of o []) (sym is)
+  same_new : (at : ℕ) → journals_at new.workers.items at ≡ before at
+  same_new at = ap (λ (m : Moment). m at) (journals_heard old.workers.items new.workers.items on.workers)
 
-  same_new : (at : ℕ) → journals_at new.crews.items at ≡ before at
-  same_new at = elim (below_or at) [
-    | inl lt ↦ same_before at lt
-    | inr le ↦ none_after new manned at le ∙ sym (none_after old over.going.manned at le)
-  ]
+  none_after : (at : ℕ) → plan.setting.n ≤ at → before at ≡ []
+  none_after at le =
+      let len = over.going.manned.workers in
+      ap (λ (o : Option (Working S)). option_map_or journal_of o []) (slice_get_past old.workers.items at (omega (arith, len, le)))
 
   -- the record's journals are those of the workers when the replicas stopped
   same_run : journal_in run ≡ before
@@ -137,7 +103,7 @@ module _ {S : Type 0} (fits : Check) (plan : Plan) (m : Meaning S) (gives : ℕ 
     | inr le ↦ (
         let len = shows.shape.journals in
         let past : slice_get run.journals at ≡ None = slice_get_past run.journals at (omega (arith, len, le)) in
-        ap (λ (o : Option Journal). option_map_or (λ (j : Journal). j.entries) o []) past ∙ sym (none_after old over.going.manned at le))
+        ap (λ (o : Option Journal). option_map_or (λ (j : Journal). j.entries) o []) past ∙ sym (none_after at le))
   ])
 
   shown_before : AreShown fits plan gives capacity run before
@@ -151,7 +117,7 @@ module _ {S : Type 0} (fits : Check) (plan : Plan) (m : Meaning S) (gives : ℕ 
 
   gone : (base : ℕ) × HasGone fits plan gives capacity (over.rounds + 1) run.ticks base before
   gone =
-      let all : AllTaken old.drivers.items old.crews.items = on.taken shows.taken in
+      let all : AllTaken old.drivers.items old.clients.items = on.taken shows.taken in
       let is : run.ticks ≡ old.ticks = shows.ticks ∙ on.ticks in
       let g : (base : ℕ) × HasGone fits plan gives capacity (over.rounds + 1) old.ticks base before = gone_on over.rounds old.ticks (over.going.gone all) in
       (g.0, subst (λ (t : ℕ). HasGone fits plan gives capacity (over.rounds + 1) t g.0 before) (sym is) g.1)
@@ -162,17 +128,17 @@ module _ {S : Type 0} (fits : Check) (plan : Plan) (m : Meaning S) (gives : ℕ 
   turned_all : AreTurned fits plan gives capacity before
   turned_all at lt =
       let (w, is, s) = over.going.stand at lt in
-      let journal : w.seat.journal ≡ before at = ap (λ (o : Option (Crew S)). option_map_or journal_of o []) (sym is) in
+      let journal : w.seat.journal ≡ before at = ap (λ (o : Option (Working S)). option_map_or journal_of o []) (sym is) in
       subst (λ (j : List Entry). j ≡ (after_events fits plan (gives at) capacity at (events_of j)).replica.journal) journal (turned fits plan m (gives at) capacity at w s)
 
   -- what a node was given is a prefix of the log
   reported_all : (at : ℕ) → at < plan.setting.n → IsPrefix (known_in (events_of (before at))) (get_or run.arrivals at [])
   reported_all at lt =
       let (w, is, s) = over.going.stand at lt in
-      let (v, there, reported) = on.replicas at w is in
-      let journal : w.seat.journal ≡ before at = ap (λ (o : Option (Crew S)). option_map_or journal_of o []) (sym is) in
+      let (v, there, reported) = zip_there ReportedWorker old.workers.items new.workers.items at w on.workers is in
+      let journal : w.seat.journal ≡ before at = ap (λ (o : Option (Working S)). option_map_or journal_of o []) (sym is) in
       let known : knows w ≡ known_in (events_of (before at)) = known_is fits plan m (gives at) capacity at w s ∙ ap (λ (j : List Entry). known_in (events_of j)) journal in
-      let seen : seen_at new.crews.items at ≡ v.log.seen = ap (λ (o : Option (Crew S)). option_map_or seen_by o []) there in
+      let seen : seen_at new.workers.items at ≡ v.log.seen = ap (λ (o : Option (Working S)). option_map_or seen_by o []) there in
       let log : IsPrefix v.log.seen (get_or run.arrivals at []) = subst (λ (l : List Tx). IsPrefix l (get_or run.arrivals at [])) seen (shows.reported at lt) in
       subst (λ (l : List Tx). IsPrefix l (get_or run.arrivals at [])) known
       (prefix_trans (knows w) w.log.seen (get_or run.arrivals at []) (begins w.known w.log.seen) (prefix_trans w.log.seen v.log.seen (get_or run.arrivals at []) reported.looked.later log))
@@ -206,11 +172,11 @@ module _ {S : Type 0} (fits : Check) (plan : Plan) (m : Meaning S) (gives : ℕ 
   unfolding holds_due
   done all at lt honest =
       let (w, is, s) = over.going.stand at lt in
-      let place : w.at ≡ at = over.going.manned.seats at (Replica w) is in
+      let place : w.at ≡ at = over.going.manned.seats at w is in
       let not_faulty : is_among plan.faulty w.at ≡ false = ap (is_among plan.faulty) place ∙ honest in
-      let asked : (if is_among plan.faulty w.at then true else holds_due old.due w.seat.node.state.known) ≡ true = all at (Replica w) is in
+      let asked : (if is_among plan.faulty w.at then true else holds_due old.due w.seat.node.state.known) ≡ true = all at w is in
       let held : holds_due old.due w.seat.node.state.known ≡ true = rw not_faulty at asked in
-      let journal : w.seat.journal ≡ before at = ap (λ (o : Option (Crew S)). option_map_or journal_of o []) (sym is) in
+      let journal : w.seat.journal ≡ before at = ap (λ (o : Option (Working S)). option_map_or journal_of o []) (sym is) in
       let node : replica_of m w.seat ≡ (after_events fits plan (gives at) capacity at (events_of (before at))).replica =
       replica_is fits plan m (gives at) capacity at w s ∙ ap (λ (j : List Entry). (after_events fits plan (gives at) capacity at (events_of j)).replica) journal in
       let batches : get_or run.batches at [] ≡ batches_of (replica_of m w.seat) =
@@ -262,7 +228,7 @@ module _ {S : Type 0} (fits : Check) (plan : Plan) (m : Meaning S) (gives : ℕ 
       let known : IsPrefix (known_in (events_of (before_tick k (before at)))) list =
       prefix_trans (known_in (events_of (before_tick k (before at)))) (known_in (events_of (before at))) list (known_prefix k (before at)) (reported_all at lt) in
       known_none_early plan rules k at before list e lt known ((shows.lists at lt).distinct) (shows.owned at e lt there)
-      (early_after plan old.ticks old.turns before old.crews.items old.drivers.items new.drivers.items (known_within fits plan m gives capacity old.crews.items over.going.stand) on.after over.going.timely k at e (omega (arith, le, is)) lt there)
+      (early_after plan old.ticks old.turns before old.workers.items old.drivers.items new.drivers.items (known_within fits plan m gives capacity old.workers.items over.going.stand) on.after over.going.timely k at e (omega (arith, le, is)) lt there)
 
   fed : AreFed plan run before
   fed = record {
@@ -276,8 +242,8 @@ module _ {S : Type 0} (fits : Check) (plan : Plan) (m : Meaning S) (gives : ℕ 
   known_senders : HasKnownSenders plan before
   known_senders at lt =
       let (w, is, s) = over.going.stand at lt in
-      let belongs : Belongs old.world.logs.items old.world.boxes.items w = (all_at (Ready old.world.logs.items old.world.boxes.items) old.crews.items at (Replica w) over.going.manned.ready is).0 in
-      let journal : w.seat.journal ≡ before at = ap (λ (o : Option (Crew S)). option_map_or journal_of o []) (sym is) in
+      let belongs : Belongs old.world.logs.items old.world.boxes.items w = (all_at (Ready old.world.logs.items old.world.boxes.items) old.workers.items at w over.going.manned.ready is).0 in
+      let journal : w.seat.journal ≡ before at = ap (λ (o : Option (Working S)). option_map_or journal_of o []) (sym is) in
       let taken : w.take.taken ≡ letters_in (events_of w.seat.journal) = ap (λ (t : Receiver). t.taken) s.did.take ∙ ap (λ (l : List Letter). l ++ letters_in (events_of w.seat.journal)) s.new.taken in
       let of : All (IsOf (length old.world.boxes.items)) (letters_in (events_of w.seat.journal)) = subst (All (IsOf (length old.world.boxes.items))) taken belongs.senders in
       subst (λ (j : List Entry). All (IsFrom plan.setting.n) (events_of j)) journal

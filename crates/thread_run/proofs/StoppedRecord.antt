@@ -1,7 +1,7 @@
 -- What the record of a run that stopped shows.
-use Rattle.std.proofs.Common.{◌≡◌, ℕ, zero, suc, ◌+◌, ◌<◌, ◌≤◌, List, [], ◌∷◌, length, get_or, map, ap, sym, subst, ◌∙◌, length-append, arith}
+use Rattle.std.proofs.Common.{◌≡◌, ℕ, zero, suc, ◌+◌, ◌<◌, List, [], ◌∷◌, length, get_or, map, ap, sym, subst, ◌∙◌, arith}
 use Rattle.std.specs.Prelude.{All, Some, None, slice_get}
-use Rattle.std.specs.List.{AllZip, flat_map}
+use Rattle.std.specs.List.{AllZip}
 use Rattle.std.specs.Option.{option_map, option_map_or}
 use Rattle.std.proofs.lemmas.Option.{get_or_from_slice_get, same_Some, slice_get-get_or, slice_get-map, slice_get_within}
 use Rattle.std.proofs.lemmas.List.{length-map}
@@ -10,7 +10,6 @@ use Rattle.std.proofs.lemmas.List.Sums.{sum_by-cons}
 use mathlib.Core.List.{IsPrefix}
 use Rattle.seq_base.specs.declared.tx.Tx.{Tx}
 use Rattle.locked_log.specs.History.{IsPassOf, Known, Opened as Log}
-use Rattle.mailbox.specs.Boxes.{Opened as Box}
 use Rattle.arrival_log.specs.Arrivals.{IsArrivals}
 use Rattle.client_logs.specs.Clients.{OfClient}
 use Rattle.client_logs.specs.Merges.{IsMerge}
@@ -19,20 +18,17 @@ use Rattle.plan_text.specs.declared.plan.Client.{Client as Sender}
 use Rattle.plan_text.specs.declared.plan.Plan.{Plan}
 use Rattle.replica_seat.specs.Feed.{arrivals_for}
 use Rattle.round_rules.specs.Submissions.{submitted_to}
-use Rattle.thread_run.specs.declared.crew.Crew.{Crew}
-use Rattle.thread_run.specs.declared.crew.Crew.TheVariants.{Replica, Client}
 use Rattle.thread_run.specs.declared.driver.Driver.{Driver}
 use Rattle.thread_run.specs.declared.runs.Run.{Run}
-use Rattle.thread_run.specs.Crews.{Ready}
-use Rattle.thread_run.specs.Finishing.{AreAllPasses, AreFinished, CanFinish, CanMerge, HadMemory, HasClient, HasRoom, IsListOf, MergeLaws, client_in, column, replica_in, rows_of}
-use Rattle.thread_run.specs.Going.{AllTaken, HasStopped, IsManned, IsOwned}
+use Rattle.thread_run.specs.Finishing.{AreAllPasses, AreFinished, CanFinish, CanMerge, HadMemory, HasClient, HasRoom, IsListOf, MergeLaws, column, rows_of}
+use Rattle.thread_run.specs.Going.{AllTaken, HasStopped, IsClientOf, IsManned, IsOwned}
 use Rattle.thread_run.specs.Standing.{seen_at, seen_by}
 use Rattle.thread_run.specs.Exchange.{IsDriverOf}
-use Rattle.thread_run.specs.Workers.{Belongs, Working}
+use Rattle.thread_run.specs.Workers.{Belongs, Ready, Working}
 use Rattle.thread_run.proofs.MergedLogs.{client_found_room, driver_took, merge_is, no_fault, owned_is, seen_worker, some_full}
-use Rattle.thread_run.proofs.CrewSplit.{After, Prefix, can_finish, client_at, column_of, finished_at, in_two, replica_at, replica_count}
+use Rattle.thread_run.proofs.Columns.{can_finish, column_of, finished_at}
 use Rattle.client_logs.proofs.Zips.{zip_length}
-use Rattle.thread_run.proofs.Zips.{all_at, some_at, zip_from}
+use Rattle.thread_run.proofs.Zips.{all_at, some_at, zip_from, zip_there}
 
 -- ---- lists, place by place
 
@@ -42,30 +38,15 @@ zip_get R (v ∷ xs) [] k x y z a b = absurd z
 zip_get R (v ∷ xs) (w ∷ ys) zero x y z a b = subst (λ (u : _). R u y) (same_Some v x a) (subst (R v) (same_Some w y b) z.0)
 zip_get R (v ∷ xs) (w ∷ ys) (suc k) x y z a b = zip_get R xs ys k x y z.1 a b
 
-module _ {S : Type 0} where
-  clients_ready : (logs : List Log) (boxes : List Box) (crews : List (Crew S)) → All (Ready logs boxes) crews → All (OfClient logs) (flat_map client_in crews)
-  clients_ready logs boxes [] all = All-nil (OfClient logs)
-  clients_ready logs boxes (Replica w ∷ crews) all = clients_ready logs boxes crews (All-tail (Ready logs boxes) (Replica w) crews all)
-  clients_ready logs boxes (Client c ∷ crews) all =
-      All-cons (OfClient logs) c (flat_map client_in crews) (All-head (Ready logs boxes) (Client c) crews all) (clients_ready logs boxes crews (All-tail (Ready logs boxes) (Client c) crews all))
-
-  -- what holds of all clients holds of the one at a place of the workers
-  client_among : (P : ClientWorker → Type 0) (crews : List (Crew S)) (k : ℕ) (c : ClientWorker) → All P (flat_map client_in crews) → slice_get crews k ≡ Some (Client c) → P c
-  client_among P [] k c all is = absurd (cc)
-  client_among P (Replica w ∷ crews) zero c all is = absurd (cc)
-  client_among P (Client d ∷ crews) zero c all is =
-      let same : Some (Client d) ≡ Some (Client c) = is in
-      let one : d ≡ c = cc in
-      subst P one (All-head P d (flat_map client_in crews) all)
-  client_among P (Replica w ∷ crews) (suc k) c all is = client_among P crews k c all is
-  client_among P (Client d ∷ crews) (suc k) c all is = client_among P crews k c (All-tail P d (flat_map client_in crews) all) is
-
 module _ {S : Type 0} (plan : Plan) (run : Run S) (stopped : HasStopped plan run) where
   abbrev n : ℕ
   n = plan.setting.n
 
-  abbrev pub crews : List (Crew S)
-  crews = run.crews.items
+  abbrev pub workers : List (Working S)
+  workers = run.workers.items
+
+  abbrev clients : List ClientWorker
+  clients = run.clients.items
 
   abbrev logs : List Log
   logs = run.world.logs.items
@@ -73,45 +54,11 @@ module _ {S : Type 0} (plan : Plan) (run : Run S) (stopped : HasStopped plan run
   abbrev drivers : List Driver
   drivers = run.drivers.items
 
-  abbrev pub workers : List (Working S)
-  workers = flat_map replica_in crews
-
-  abbrev clients : List ClientWorker
-  clients = flat_map client_in crews
-
   abbrev manned : IsManned plan run
   manned = stopped.manned
 
-  prefix : Prefix n crews
-  prefix at lt = (let r = manned.replicas at lt in (r.0, r.1))
-
-  following : After n crews
-  following k lt =
-      let len = manned.crews in
-      let (p, is) = some_at plan.clients k (omega (arith, len, lt)) in
-      let c = manned.clients k p is in (c.0, c.1)
-
-  enough : n ≤ length crews
-  enough = (let len = manned.crews in omega (arith, len))
-
-  pub worker_count : length workers ≡ n
-  worker_count = replica_count n crews enough prefix following
-
-  pub worker_at : (at : ℕ) (w : Working S) → at < n → slice_get crews at ≡ Some (Replica w) → slice_get workers at ≡ Some w
-  worker_at at w lt is = replica_at crews at w (λ i less. prefix i (omega (arith, less, lt))) is
-
   client_count : length clients ≡ length plan.clients
-  client_count =
-      let both = ap length (in_two n crews enough prefix following) in
-      let sum = length-append (map Replica workers) (map Client clients) in
-      let one = length-map {B = Crew S} workers Replica in
-      let two = length-map {B = Crew S} clients Client in
-      let len = manned.crews in
-      let count = worker_count in
-      omega (arith, both, sum, one, two, len, count)
-
-  all_of_clients : All (OfClient logs) clients
-  all_of_clients = clients_ready logs run.world.boxes.items crews manned.ready
+  client_count = sym (zip_length IsClientOf plan.clients clients manned.clients)
 
   log_count : length logs ≡ n
   log_count = manned.logs
@@ -119,8 +66,8 @@ module _ {S : Type 0} (plan : Plan) (run : Run S) (stopped : HasStopped plan run
   driver_count : length drivers ≡ length logs
   driver_count = sym (zip_length IsDriverOf logs drivers manned.drivers)
 
-  own_at : (k : ℕ) (w : Working S) → k < n → slice_get crews k ≡ Some (Replica w) → slice_get (map (λ (v : Working S). v.log) workers) k ≡ Some w.log
-  own_at k w lt is = slice_get-map (λ (v : Working S). v.log) workers k ∙ ap (option_map (λ (v : Working S). v.log)) (worker_at k w lt is)
+  own_at : (k : ℕ) (w : Working S) → slice_get workers k ≡ Some w → slice_get (map (λ (v : Working S). v.log) workers) k ≡ Some w.log
+  own_at k w is = slice_get-map (λ (v : Working S). v.log) workers k ∙ ap (option_map (λ (v : Working S). v.log)) is
 
   -- all passes of the log at a place
   passes_are : (k : ℕ) (l : Log) (d : Driver) (o : Known Tx) → slice_get logs k ≡ Some l → slice_get drivers k ≡ Some d → slice_get (map (λ (v : Working S). v.log) workers) k ≡ Some o
@@ -128,13 +75,13 @@ module _ {S : Type 0} (plan : Plan) (run : Run S) (stopped : HasStopped plan run
   passes_are k l d o il id io =
       let below : k < n = (let len = log_count in let lt = slice_get_within logs k l il in omega (arith, len, lt)) in
       let (w, at, fresh, kept) = manned.replicas k below in
-      let same : w.log ≡ o = same_Some w.log o (sym (own_at k w below at) ∙ io) in
+      let same : w.log ≡ o = same_Some w.log o (sym (own_at k w at) ∙ io) in
       let of : IsDriverOf l d = zip_get IsDriverOf logs drivers k l d manned.drivers il id in
-      let belongs : Belongs logs run.world.boxes.items w = (all_at (Ready logs run.world.boxes.items) crews k (Replica w) manned.ready at).0 in
-      let place : w.at ≡ k = manned.seats k (Replica w) at in
+      let belongs : Belongs logs run.world.boxes.items w = (all_at (Ready logs run.world.boxes.items) workers k w manned.ready at).0 in
+      let place : w.at ≡ k = manned.seats k w at in
       let (x, there, own) = belongs.log in
       let here : x ≡ l = same_Some x l (sym there ∙ ap (slice_get logs) place ∙ il) in
-      let column_is = column_of logs k l il clients all_of_clients in
+      let column_is = column_of logs k l il clients manned.of in
       let parts : l.parts ≡ d.pass.parts + 1 + length plan.clients = zip_get (λ (log : Log) (e : Driver). log.parts ≡ e.pass.parts + 1 + length plan.clients) logs drivers k l d manned.parts il id in
       let first = sum_by-cons (λ (p : Known Tx). p.parts) d.pass (o ∷ column k (rows_of clients)) in
       let second = sum_by-cons (λ (p : Known Tx). p.parts) o (column k (rows_of clients)) in
@@ -148,8 +95,8 @@ module _ {S : Type 0} (plan : Plan) (run : Run S) (stopped : HasStopped plan run
 
   pub can : CanFinish logs drivers (map (λ (w : Working S). w.log) workers) (rows_of clients)
   can =
-      let own_count : length (map (λ (w : Working S). w.log) workers) ≡ length logs = length-map workers (λ (w : Working S). w.log) ∙ worker_count ∙ sym log_count in
-      can_finish logs drivers (map (λ (w : Working S). w.log) workers) (rows_of clients) driver_count own_count (rows clients all_of_clients) passes_are
+      let own_count : length (map (λ (w : Working S). w.log) workers) ≡ length logs = length-map workers (λ (w : Working S). w.log) ∙ manned.workers ∙ sym log_count in
+      can_finish logs drivers (map (λ (w : Working S). w.log) workers) (rows_of clients) driver_count own_count (rows clients manned.of) passes_are
     where
       rows : (cs : List ClientWorker) → All (OfClient logs) cs → All (λ row. length row ≡ length logs) (rows_of cs)
       rows [] all = All-nil (λ row. length row ≡ length logs)
@@ -165,14 +112,13 @@ module _ {S : Type 0} (plan : Plan) (run : Run S) (stopped : HasStopped plan run
       where
         each : (i : ℕ) (p : Sender) (e : ClientWorker) → i < length plan.clients → HasClient logs (get_or plan.clients i p) (get_or clients i e)
         each i p e lt =
-            let (c, at, id, number) = manned.clients i (get_or plan.clients i p) (slice_get-get_or plan.clients i p lt) in
-            let found : slice_get clients i ≡ Some c = client_at n crews i c prefix following at in
+            let (c, found, is_of) = zip_there IsClientOf plan.clients clients i (get_or plan.clients i p) manned.clients (slice_get-get_or plan.clients i p lt) in
             let same : get_or clients i e ≡ c = get_or_from_slice_get clients i c e found in
             subst (HasClient logs (get_or plan.clients i p)) (sym same) (record {
-              id = id;
-              count = number;
-              of = all_at (OfClient logs) clients i c all_of_clients found;
-              ends = stopped.clients (n + i) c at;
+              id = is_of.0;
+              count = is_of.1;
+              of = all_at (OfClient logs) clients i c manned.of found;
+              ends = stopped.clients i c found;
               had = all_at (λ (x : ClientWorker). HadMemory x.fault) clients i c clients_had found;
             })
 
@@ -181,7 +127,7 @@ module _ {S : Type 0} (plan : Plan) (run : Run S) (stopped : HasStopped plan run
       pub driver : Driver
       pub worker : Working S
       pub is_driver : slice_get drivers k ≡ Some driver
-      pub is_worker : slice_get crews k ≡ Some (Replica worker)
+      pub is_worker : slice_get workers k ≡ Some worker
       pub can_merge : CanMerge plan logs k driver worker.log
       pub listed : IsListOf (driver.pass ∷ worker.log ∷ column k (rows_of clients)) (get_or lists k [])
 
@@ -203,7 +149,7 @@ module _ {S : Type 0} (plan : Plan) (run : Run S) (stopped : HasStopped plan run
             had = all_at (λ (x : Driver). HadMemory x.fault) drivers k d had id;
             bare = fresh.1;
           };
-          listed = finished_at drivers (map (λ (v : Working S). v.log) workers) (rows_of clients) lists finished k d w.log (get_or lists k []) id (own_at k w lt at) (slice_get-get_or lists k [] in_lists);
+          listed = finished_at drivers (map (λ (v : Working S). v.log) workers) (rows_of clients) lists finished k d w.log (get_or lists k []) id (own_at k w at) (slice_get-get_or lists k [] in_lists);
         }
 
     clients_none : All (λ c. c.fault ≡ None) clients
@@ -211,7 +157,7 @@ module _ {S : Type 0} (plan : Plan) (run : Run S) (stopped : HasStopped plan run
       where
         each : (j : ℕ) (c : ClientWorker) → slice_get clients j ≡ Some c → c.fault ≡ None
         each j c is = no_fault c.fault (all_at (λ (x : ClientWorker). HadMemory x.fault) clients j c clients_had is) (λ full. (
-            let of : OfClient logs c = all_at (OfClient logs) clients j c all_of_clients is in
+            let of : OfClient logs c = all_at (OfClient logs) clients j c manned.of is in
             let (k, q, found, was) = some_full _ c.passes.items (of.full full) in
             let len = zip_length IsPassOf logs c.passes.items of.passes in
             let lt = slice_get_within c.passes.items k q found in
@@ -219,13 +165,13 @@ module _ {S : Type 0} (plan : Plan) (run : Run S) (stopped : HasStopped plan run
             let a : AtLog k = at_log k (omega (arith, len, lt, many)) in
             client_found_room plan logs clients laws all_clients k a.driver a.worker.log (get_or lists k []) a.can_merge a.listed j c q is full found was))
 
-    pub taken : AllTaken drivers crews
+    pub taken : AllTaken drivers clients
     taken = record {
       drivers_took = λ at d is. (
           let lt : at < n = (let len = driver_count in let many = log_count in let less = slice_get_within drivers at d is in omega (arith, len, many, less)) in
           let a : AtLog at = at_log at lt in
           ap (λ (x : Driver). x.fault) (same_Some d a.driver (sym is ∙ a.is_driver)) ∙ driver_took plan logs clients laws all_clients at a.driver a.worker.log (get_or lists at []) a.can_merge a.listed);
-      clients_took = λ k c is. client_among (λ (x : ClientWorker). x.fault ≡ None) crews k c clients_none is;
+      clients_took = λ k c is. all_at (λ (x : ClientWorker). x.fault ≡ None) clients k c clients_none is;
     }
 
     pub merged : (at : ℕ) → at < n → IsMerge (submitted_to plan at) (get_or lists at [])
@@ -242,8 +188,8 @@ module _ {S : Type 0} (plan : Plan) (run : Run S) (stopped : HasStopped plan run
     pub listed_at : (at : ℕ) → at < n → IsArrivals (get_or lists at [])
     listed_at at lt = (at_log at lt).listed.arrivals
 
-    pub reported : (at : ℕ) → at < n → IsPrefix (seen_at crews at) (get_or lists at [])
+    pub reported : (at : ℕ) → at < n → IsPrefix (seen_at workers at) (get_or lists at [])
     reported at lt =
         let a : AtLog at = at_log at lt in
-        let seen : seen_at crews at ≡ a.worker.log.seen = ap (λ (o : _). option_map_or seen_by o []) a.is_worker in
+        let seen : seen_at workers at ≡ a.worker.log.seen = ap (λ (o : _). option_map_or seen_by o []) a.is_worker in
         subst (λ (l : List Tx). IsPrefix l (get_or lists at [])) (sym seen) (seen_worker plan logs clients laws all_clients at a.driver a.worker.log (get_or lists at []) a.can_merge a.listed)

@@ -9,26 +9,26 @@ use Rattle.std.proofs.lemmas.Option.{get_or_from_slice_get, same_Some, slice_get
 use mathlib.Core.List.{IsPrefix}
 use Rattle.locked_log.specs.History.{Opened as Log}
 use Rattle.locked_log.proofs.Lists.{prefix_length}
+use Rattle.client_logs.specs.Clients.{OfClient}
+use Rattle.client_logs.specs.declared.client.Client.{Client as ClientWorker}
 use Rattle.plan_text.specs.declared.plan.Plan.{Plan}
 use Rattle.replica_seat.specs.Feed.{after_giving, arrivals_for}
 use Rattle.replica_seat.specs.declared.arrivals.TimedTx.{TimedTx}
-use Rattle.thread_run.specs.declared.crew.Crew.{Crew}
-use Rattle.thread_run.specs.declared.crew.Crew.TheVariants.{Replica, Client}
 use Rattle.thread_run.specs.declared.driver.Driver.{Driver}
 use Rattle.thread_run.specs.declared.runs.Run.{Run}
-use Rattle.thread_run.specs.Crews.{Ready}
 use Rattle.thread_run.specs.Going.{DriverGoes, HasGiven, IsManned}
 use Rattle.thread_run.specs.Standing.{seen_at}
 use Rattle.thread_run.specs.Steps.{HasHeard, HasSubmitted, HasReported, Submits}
-use Rattle.thread_run.specs.Exchange.{DriverHears, HeardFirst, Hears, IsDriverOf, ReportedFirst}
+use Rattle.thread_run.specs.Exchange.{DriverHears, HeardFirst, IsDriverOf, ReportedClient, ReportedFirst, ReportedWorker}
+use Rattle.thread_run.specs.Workers.{Ready, Working}
 use Rattle.thread_run.proofs.WorkDone.{looked_self}
 use Rattle.thread_run.proofs.DriverLog.{given_looked, own_on}
-use Rattle.thread_run.proofs.LogNews.{all_hear_on}
+use Rattle.thread_run.proofs.LogNews.{clients_hear, workers_hear}
 use Rattle.thread_run.proofs.LinkedSends.{get_other, get_set}
-use Rattle.thread_run.proofs.CrewInvariant.{PartsAddUp, Serves, manned_on, serves_heard}
+use Rattle.thread_run.proofs.MannedRuns.{PartsAddUp, Remains, Serves, client_remains, manned_on, serves_heard}
 use Rattle.thread_run.proofs.Timeliness.{goes_from_on, goes_looked, goes_lower, goes_of}
 use Rattle.client_logs.proofs.Zips.{zip_at, zip_length, zip_set}
-use Rattle.thread_run.proofs.Zips.{or_other, or_set, zip_back, zip_map, zip_of}
+use Rattle.thread_run.proofs.Zips.{or_other, or_set, zip_back, zip_map, zip_of, zip_self}
 
 -- the driver submitted what arrives at the first logs
 pub record SoManySubmit {S : Type 0} (plan : Plan) (turns k : ℕ) (old new : Run S) : Type 0 where
@@ -63,27 +63,31 @@ parts_heard plan (l ∷ logs) (d ∷ ds) [] z h = absurd h
 parts_heard plan (l ∷ logs) (d ∷ ds) (e ∷ es) z h =
     (z.0 ∙ ap (λ (n : ℕ). n + 1 + length plan.clients) (sym (ap (λ (p : Rattle.locked_log.specs.History.Known Rattle.seq_base.specs.declared.tx.Tx.Tx). p.parts) h.0.looked.same)), parts_heard plan logs ds es z.1 h.1)
 
+pub remain_self : (cs : List ClientWorker) → AllZip Remains cs cs
+remain_self cs = zip_self Remains (λ c. (refl, refl)) cs
+
 module _ {S : Type 0} where
-  pub serve_self : (cs : List (Crew S)) → AllZip Serves cs cs
-  serve_self [] = tt
-  serve_self (Replica w ∷ cs) = ((refl, looked_self w.log, λ ok. ok), serve_self cs)
-  serve_self (Client c ∷ cs) = ((refl, refl), serve_self cs)
+  pub serve_self : (ws : List (Working S)) → AllZip Serves ws ws
+  serve_self ws = zip_self Serves (λ w. (refl, looked_self w.log, λ ok. ok)) ws
 
   -- the workers were informed of what was submitted, and the driver of what they had seen
-  pub reported_of : (plan : Plan) (old new : Run S) → IsManned plan old → All (Ready old.world.logs.items old.world.boxes.items) new.crews.items → AllZip Hears old.crews.items new.crews.items
-      → AllZip DriverHears old.drivers.items new.drivers.items → AllZip IsDriverOf old.world.logs.items new.drivers.items → ReportedFirst (length new.drivers.items) old.drivers.items new.crews.items
-      → HeardFirst (length new.drivers.items) old.crews.items new.drivers.items → new ≡ record old { crews = new.crews; drivers = new.drivers } → HasReported plan old new
-  reported_of plan old new m ready hears heard own reported back rest =
+  pub reported_of : (plan : Plan) (old new : Run S) → IsManned plan old → All (Ready old.world.logs.items old.world.boxes.items) new.workers.items → All (OfClient old.world.logs.items) new.clients.items
+      → AllZip ReportedWorker old.workers.items new.workers.items → AllZip ReportedClient old.clients.items new.clients.items → AllZip DriverHears old.drivers.items new.drivers.items
+      → AllZip IsDriverOf old.world.logs.items new.drivers.items → ReportedFirst (length new.drivers.items) old.drivers.items new.workers.items new.clients.items
+      → HeardFirst (length new.drivers.items) old.workers.items new.drivers.items → new ≡ record old { workers = new.workers; clients = new.clients; drivers = new.drivers } → HasReported plan old new
+  reported_of plan old new m ready of hears clients heard own reported back rest =
       let count = zip_length IsDriverOf old.world.logs.items new.drivers.items own in
       let logs = m.logs in record {
         drivers = heard;
-        crews = hears;
+        workers = hears;
+        clients = clients;
         reported = λ j d lt. reported j d (omega (arith, lt, count, logs));
         heard = λ j d lt. back j d (omega (arith, lt, count, logs));
-        manned = manned_on plan old new.crews.items new.drivers.items m (zip_map Hears Serves serves_heard old.crews.items new.crews.items hears) ready own
+        manned = manned_on plan old new.workers.items new.clients.items new.drivers.items m (zip_map ReportedWorker Serves serves_heard old.workers.items new.workers.items hears)
+            (zip_map ReportedClient Remains client_remains old.clients.items new.clients.items clients) ready of own
             (parts_heard plan old.world.logs.items old.drivers.items new.drivers.items m.parts heard)
             (λ at e is. (let (b, b_is, hd) = zip_back DriverHears old.drivers.items new.drivers.items at e heard is in given_looked (arrivals_for plan.arrivals at) b e hd (m.given at b b_is)))
-            new (ap (λ (x : Run S). x.world) rest) (ap (λ (x : Run S). x.due) rest) refl refl;
+            new (ap (λ (x : Run S). x.world) rest) (ap (λ (x : Run S). x.due) rest) refl refl refl;
         same = rest;
       }
 
@@ -101,10 +105,10 @@ module _ {S : Type 0} where
           let other : k ≡ at → ⊥ = λ is. absurd (omega (arith, is, le)) in
           ap (λ (ds : List Driver). get_or ds at e) items ∙ or_other drivers k at d e other ∙ so.others at e (omega (arith, le));
       count = ap length items ∙ length-set drivers k d ∙ so.count;
-      manned = manned_on plan mid mid.crews.items (slice_set drivers k d) m (serve_self mid.crews.items) m.ready
+      manned = manned_on plan mid mid.workers.items mid.clients.items (slice_set drivers k d) m (serve_self mid.workers.items) (remain_self mid.clients.items) m.ready m.of
           (zip_set IsDriverOf logs drivers k log d m.drivers (own_on (get_or logs k log) r d own goes))
           (zip_set (PartsAddUp plan) logs drivers k log d m.parts (parts ∙ ap (λ (n : ℕ). n + 1 + length plan.clients) (sym goes.parts)))
-          had new (ap (λ (x : Run S). x.world) rest) (ap (λ (x : Run S). x.due) rest) (ap (λ (x : Run S). x.crews.items) rest) items;
+          had new (ap (λ (x : Run S). x.world) rest) (ap (λ (x : Run S). x.due) rest) (ap (λ (x : Run S). x.workers.items) rest) (ap (λ (x : Run S). x.clients.items) rest) items;
       same = rest ∙ ap (λ (x : Run S). record x { drivers = new.drivers }) so.same;
     }
       where
@@ -169,18 +173,19 @@ module _ {S : Type 0} where
           let within = slice_get_within first.drivers.items at a a_is in
           let count = zip_length IsDriverOf first.world.logs.items first.drivers.items before.manned.drivers in
           let logs = before.manned.logs in
-          let seen : IsPrefix (seen_at old.crews.items at) a.pass.seen =
-          subst (λ (x : Driver). IsPrefix (seen_at old.crews.items at) x.pass.seen) (get_or_from_slice_get first.drivers.items at a a a_is) (before.heard at a (omega (arith, within, count, logs))) in
-          let low : ℕ = length (seen_at old.crews.items at) in (
+          let seen : IsPrefix (seen_at old.workers.items at) a.pass.seen =
+          subst (λ (x : Driver). IsPrefix (seen_at old.workers.items at) x.pass.seen) (get_or_from_slice_get first.drivers.items at a a a_is) (before.heard at a (omega (arith, within, count, logs))) in
+          let low : ℕ = length (seen_at old.workers.items at) in (
             d,
             d_is,
             goes_from_on low low d.pass a.pass e.pass (omega arith) (goes_looked low d.pass a.pass heard.looked)
-                (goes_from_on low low a.pass b.pass e.pass (omega arith) (goes_lower low (length a.pass.seen) a.pass b.pass (prefix_length (seen_at old.crews.items at) a.pass.seen seen) sub.2) (goes_looked low b.pass e.pass last.looked)),
+                (goes_from_on low low a.pass b.pass e.pass (omega arith) (goes_lower low (length a.pass.seen) a.pass b.pass (prefix_length (seen_at old.workers.items at) a.pass.seen seen) sub.2) (goes_looked low b.pass e.pass last.looked)),
           ));
       given = s.manned.given;
       heard = reported.drivers;
       reported = reported.reported;
-      crews = all_hear_on old.crews.items first.crews.items new.crews.items before.crews (subst (λ (r : Run S). AllZip Hears r.crews.items new.crews.items) s.same reported.crews);
+      workers = workers_hear old.workers.items first.workers.items new.workers.items before.workers (subst (λ (r : Run S). AllZip ReportedWorker r.workers.items new.workers.items) s.same reported.workers);
+      clients = clients_hear old.clients.items first.clients.items new.clients.items before.clients (subst (λ (r : Run S). AllZip ReportedClient r.clients.items new.clients.items) s.same reported.clients);
       manned = reported.manned;
-      same = reported.same ∙ ap (λ (x : Run S). record x { crews = new.crews; drivers = new.drivers }) (s.same ∙ ap (λ (x : Run S). record x { drivers = mid.drivers }) before.same);
+      same = reported.same ∙ ap (λ (x : Run S). record x { workers = new.workers; clients = new.clients; drivers = new.drivers }) (s.same ∙ ap (λ (x : Run S). record x { drivers = mid.drivers }) before.same);
     }

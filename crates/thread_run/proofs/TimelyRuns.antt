@@ -25,7 +25,6 @@ use Rattle.round_rules.specs.Submissions.{client_list}
 use Rattle.round_rules.proofs.ReplicaSums.{deliveries-append, sum_less, sum_same, ticks-append}
 use Rattle.round_rules.proofs.JournalCuts.{cut_here, cut_stays, cut_whole}
 use Rattle.round_rules.proofs.Lists.{first_is}
-use Rattle.thread_run.specs.declared.crew.Crew.{Crew}
 use Rattle.thread_run.specs.declared.driver.Driver.{Driver}
 use Rattle.thread_run.specs.declared.runs.Run.{Run}
 use Rattle.thread_run.specs.Going.{HasGiven, IsOwned}
@@ -33,6 +32,7 @@ use Rattle.thread_run.specs.Standing.{AllStand, journals_at, seen_at}
 use Rattle.thread_run.specs.Steps.{HasHeard, Submits, SubmitsAfter}
 use Rattle.thread_run.specs.Exchange.{DriverHears}
 use Rattle.thread_run.specs.Timely.{GivenBy, IsTimely, NoneEarly, known_before}
+use Rattle.thread_run.specs.Workers.{Working}
 use Rattle.thread_run.proofs.JournalRounds.{journal_is, seen_is}
 use Rattle.thread_run.proofs.Rooms.{has_room}
 use Rattle.thread_run.proofs.WorkerInvariant.{known_is}
@@ -62,15 +62,15 @@ take_fewer zero xs = omega arith
 take_fewer (suc k) [] = omega arith
 take_fewer (suc k) (x ∷ xs) = (let rest = take_fewer k xs in omega (arith, rest))
 
-module _ {S : Type 0} (fits : Check) (plan : Plan) (m : Meaning S) (gives : ℕ → Gives) (capacity : ℕ) (crews : List (Crew S)) (stand : AllStand fits plan m gives capacity crews) where
-  pub known_within : (k at : ℕ) → at < plan.setting.n → known_before k (journals_at crews) at ≤ length (seen_at crews at)
+module _ {S : Type 0} (fits : Check) (plan : Plan) (m : Meaning S) (gives : ℕ → Gives) (capacity : ℕ) (workers : List (Working S)) (stand : AllStand fits plan m gives capacity workers) where
+  pub known_within : (k at : ℕ) → at < plan.setting.n → known_before k (journals_at workers) at ≤ length (seen_at workers at)
   known_within k at lt =
       let (w, is, s) = stand at lt in
-      let journal = ap (λ (j : List Entry). length (known_in (events_of j))) (journal_is crews at w is) in
-      let seen = ap length (seen_is crews at w is) in
+      let journal = ap (λ (j : List Entry). length (known_in (events_of j))) (journal_is workers at w is) in
+      let seen = ap length (seen_is workers at w is) in
       let known = ap length (known_is fits plan m (gives at) capacity at w s) in
       let less = take_fewer w.known w.log.seen in
-      let fewer = prefix_length (known_in (events_of (before_tick k (journals_at crews at)))) (known_in (events_of (journals_at crews at))) (known_prefix k (journals_at crews at)) in
+      let fewer = prefix_length (known_in (events_of (before_tick k (journals_at workers at)))) (known_in (events_of (journals_at workers at))) (known_prefix k (journals_at workers at)) in
       omega (arith, journal, seen, known, less, fewer)
 
 -- ---- a round
@@ -172,12 +172,12 @@ module _ (plan : Plan) where
       one (Some floor) = omega arith
 
   -- what the driver gives after all that the workers had seen leaves none early
-  pub early_after : {S : Type 0} (ticks turns : ℕ) (m : Moment) (crews : List (Crew S)) (ds es : List Driver) → ((k at : ℕ) → at < plan.setting.n → known_before k m at ≤ length (seen_at crews at)) → SubmitsAfter crews ds es
+  pub early_after : {S : Type 0} (ticks turns : ℕ) (m : Moment) (workers : List (Working S)) (ds es : List Driver) → ((k at : ℕ) → at < plan.setting.n → known_before k m at ≤ length (seen_at workers at)) → SubmitsAfter workers ds es
       → IsTimely plan ticks turns m ds → (k at : ℕ) (e : Driver) → k ≤ ticks → at < plan.setting.n → slice_get es at ≡ Some e
       → NoneEarly (arrivals_for plan.arrivals at) (turns_at plan (at_tick k m)) (known_before k m at) e.pass
-  early_after ticks turns m crews ds es within after t k at e le lt there =
+  early_after ticks turns m workers ds es within after t k at e le lt there =
       let (d, was, goes) = after at e there in
-      early_on (arrivals_for plan.arrivals at) (turns_at plan (at_tick k m)) (known_before k m at) (length (seen_at crews at)) d.pass e.pass (within k at lt) goes (t.early k at d le lt was)
+      early_on (arrivals_for plan.arrivals at) (turns_at plan (at_tick k m)) (known_before k m at) (length (seen_at workers at)) d.pass e.pass (within k at lt) goes (t.early k at d le lt was)
 
   -- and what it gives has come by the turns so far
   pub given_heard : {S : Type 0} (turns now : ℕ) (old new : Run S) → turns ≤ now → HasHeard plan turns old new → ((at : ℕ) (d : Driver) → at < plan.setting.n → slice_get old.drivers.items at ≡ Some d → GivenBy now (arrivals_for plan.arrivals at) d)

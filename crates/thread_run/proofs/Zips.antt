@@ -1,7 +1,7 @@
 -- More on lists, and on a relation between the elements of two lists, place by place.
 use Rattle.std.proofs.Common.{◌≡◌, ℕ, zero, suc, ◌+◌, ◌<◌, List, [], ◌∷◌, length, get_or, refl, ap, subst, ◌∙◌, arith}
 use Rattle.std.specs.Prelude.{All, Some, slice_get, slice_set}
-use Rattle.std.proofs.lemmas.Option.{get_or_from_slice_get, same_Some, slice_get_within}
+use Rattle.std.proofs.lemmas.Option.{get_or_from_slice_get, same_Some, slice_get-get_or, slice_get_within}
 use Rattle.std.specs.List.{AllZip, range_with_len}
 
 module _ {A B : Type 0} (R : A → B → Type 0) where
@@ -60,6 +60,9 @@ range_at a (suc n) (suc k) lt = range_at (a + 1) n k (omega (arith, lt)) ∙ ap 
 pub all_at : {X : Type 0} (P : X → Type 0) (xs : List X) (i : ℕ) (x : X) → All P xs → slice_get xs i ≡ Some x → P x
 all_at P xs i x all is = subst P (get_or_from_slice_get xs i x x is) (all i x (slice_get_within xs i x is))
 
+pub all_places : {X : Type 0} (P : X → Type 0) (xs : List X) → ((k : ℕ) (x : X) → slice_get xs k ≡ Some x → P x) → All P xs
+all_places P xs each = λ k d lt. each k (get_or xs k d) (slice_get-get_or xs k d lt)
+
 -- functions with the same values are one
 pub same_at_each : {A B : Type 0} (f g : A → B) → ((x : A) → f x ≡ g x) → f ≡ g
 same_at_each f g h = λ j x. h x j
@@ -77,3 +80,25 @@ or_other (y ∷ xs) zero zero x d other = absurd (other refl)
 or_other (y ∷ xs) zero (suc j) x d other = refl
 or_other (y ∷ xs) (suc k) zero x d other = refl
 or_other (y ∷ xs) (suc k) (suc j) x d other = or_other xs k j x d (λ e. other (ap suc e))
+
+-- ---- a relation that each element has to itself, and that goes on
+
+module _ {X : Type 0} (R : X → X → Type 0) (self : (x : X) → R x x) where
+  pub zip_self : (xs : List X) → AllZip R xs xs
+  zip_self [] = tt
+  zip_self (x ∷ xs) = (self x, zip_self xs)
+
+  -- one element is exchanged
+  pub zip_one : (xs : List X) (i : ℕ) (d x : X) → R (get_or xs i d) x → AllZip R xs (slice_set xs i x)
+  zip_one [] i d x r = tt
+  zip_one (y ∷ xs) zero d x r = (r, zip_self xs)
+  zip_one (y ∷ xs) (suc i) d x r = (self y, zip_one xs i d x r)
+
+module _ {X : Type 0} (R : X → X → Type 0) (on : (x y z : X) → R x y → R y z → R x z) where
+  pub zip_on : (xs ys zs : List X) → AllZip R xs ys → AllZip R ys zs → AllZip R xs zs
+  zip_on [] [] [] a b = tt
+  zip_on [] [] (z ∷ zs) a b = absurd b
+  zip_on [] (y ∷ ys) zs a b = absurd a
+  zip_on (x ∷ xs) [] zs a b = absurd a
+  zip_on (x ∷ xs) (y ∷ ys) [] a b = absurd b
+  zip_on (x ∷ xs) (y ∷ ys) (z ∷ zs) a b = (on x y z a.0 b.0, zip_on xs ys zs a.1 b.1)

@@ -1,15 +1,13 @@
 -- What workers and the driver are informed of between rounds.
-use Rattle.std.specs.Prelude.{◌≡◌, ℕ, ◌<◌, ◌≤◌, List, Some, None, slice_get, get_or, ⊤}
+use Rattle.std.specs.Prelude.{◌≡◌, ℕ, ◌<◌, ◌≤◌, List, Some, None, slice_get, get_or}
 use Rattle.std.specs.List.{AllZip}
 use mathlib.Core.List.{IsPrefix}
 use Rattle.seq_base.specs.declared.tx.Tx.{Tx}
-use Rattle.locked_log.specs.History.{HasLooked, IsPassOf, Known, Opened as Log}
+use Rattle.locked_log.specs.History.{HasLooked, IsPassOf, Opened as Log}
 use Rattle.client_logs.specs.Clients.{SeenMore, numbered}
 use Rattle.client_logs.specs.Submitted.{HoldsEach}
 use Rattle.client_logs.specs.declared.client.Client.{Client as ClientWorker}
 use Rattle.thread_run.specs.declared.driver.Driver.{Driver}
-use Rattle.thread_run.specs.declared.crew.Crew.{Crew}
-use Rattle.thread_run.specs.declared.crew.Crew.TheVariants.{Replica, Client}
 use Rattle.thread_run.specs.Standing.{seen_at}
 use Rattle.thread_run.specs.Workers.{Working}
 
@@ -23,48 +21,25 @@ pub record ReportedWorker {S : Type 0} (old new : Working S) : Type 0 where
   pub rest : new ≡ record old { log = new.log }
   pub looked : HasLooked old.log new.log
 
--- a worker that was informed of something, or of nothing
-abbrev pub Hears : {S : Type 0} → Crew S → Crew S → Type 0
-Hears (Replica old) (Replica new) = ReportedWorker old new
-Hears (Client old) (Client new) = ReportedClient old new
-Hears (Replica old) (Client new) = ⊥
-Hears (Client old) (Replica new) = ⊥
-
 -- a list that holds all that a client has submitted, unless a log did not take something of it
-abbrev pub HoldsOf : {S : Type 0} → List Tx → Crew S → Type 0
-HoldsOf seen (Replica w) = ⊤
-HoldsOf seen (Client c) = c.fault ≡ None → HoldsEach seen (numbered c.id c.next)
+abbrev pub HoldsOf : List Tx → ClientWorker → Type 0
+HoldsOf seen c = c.fault ≡ None → HoldsEach seen (numbered c.id c.next)
 
--- the same for the first k workers
-abbrev pub HoldsFirst : {S : Type 0} → ℕ → List Tx → List (Crew S) → Type 0
-HoldsFirst {S = S} k seen crews = (i : ℕ) (c : Crew S) → i < k → slice_get crews i ≡ Some c → HoldsOf seen c
-
--- the worker is a replica's, and the pass is one of its log
-abbrev pub IsPassAt : {S : Type 0} → List Log → Known Tx → Crew S → Type 0
-IsPassAt logs pass (Replica w) = (d : Log) → IsPassOf (get_or logs w.at d) pass
-IsPassAt logs pass (Client c) = ⊤
-
--- a replica's worker has seen all of a list
-abbrev pub HasSeen : {S : Type 0} → List Tx → Crew S → Type 0
-HasSeen seen (Replica w) = IsPrefix seen w.log.seen
-HasSeen seen (Client c) = ⊤
+-- the same for the first k clients
+abbrev pub HoldsFirst : ℕ → List Tx → List ClientWorker → Type 0
+HoldsFirst k seen clients = (i : ℕ) (c : ClientWorker) → i < k → slice_get clients i ≡ Some c → HoldsOf seen c
 
 -- The worker of a replica has seen all of a list, and all that the clients have submitted to its log.
-abbrev pub IsReportedAll : {S : Type 0} → List Tx → List (Crew S) → Crew S → Type 0
-IsReportedAll {S = S} seen crews (Replica w) = IsPrefix seen w.log.seen × ((i : ℕ) (c : Crew S) → slice_get crews i ≡ Some c → HoldsOf w.log.seen c)
-IsReportedAll {S = S} seen crews (Client c) = ⊤
+abbrev pub IsReportedAll : {S : Type 0} → List Tx → List ClientWorker → Working S → Type 0
+IsReportedAll seen clients w = IsPrefix seen w.log.seen × ((i : ℕ) (c : ClientWorker) → slice_get clients i ≡ Some c → HoldsOf w.log.seen c)
 
 -- the same for the worker at a place
-abbrev pub ReportedAt : {S : Type 0} → ℕ → List Tx → List (Crew S) → Type 0
-ReportedAt {S = S} k seen crews = (d : Crew S) → IsReportedAll seen crews (get_or crews k d)
+abbrev pub ReportedAt : {S : Type 0} → ℕ → List Tx → List (Working S) → List ClientWorker → Type 0
+ReportedAt {S = S} k seen workers clients = (d : Working S) → IsReportedAll seen clients (get_or workers k d)
 
 -- the worker of each replica stands at its place
-abbrev pub IsAt : {S : Type 0} → ℕ → Crew S → Type 0
-IsAt k (Replica w) = w.at ≡ k
-IsAt k (Client c) = ⊤
-
-abbrev pub AreSeated : {S : Type 0} → List (Crew S) → Type 0
-AreSeated {S = S} crews = (k : ℕ) (c : Crew S) → slice_get crews k ≡ Some c → IsAt k c
+abbrev pub AreSeated : {S : Type 0} → List (Working S) → Type 0
+AreSeated {S = S} workers = (k : ℕ) (w : Working S) → slice_get workers k ≡ Some w → w.at ≡ k
 
 -- ---- all logs
 
@@ -79,9 +54,9 @@ pub record DriverHears (old new : Driver) : Type 0 where
 
 -- the workers of the first k replicas were informed of all that the driver had seen of their logs, and of all that the
 -- clients had submitted
-abbrev pub ReportedFirst : {S : Type 0} → ℕ → List Driver → List (Crew S) → Type 0
-ReportedFirst k drivers crews = (j : ℕ) (d : Driver) → j < k → ReportedAt j (get_or drivers j d).pass.seen crews
+abbrev pub ReportedFirst : {S : Type 0} → ℕ → List Driver → List (Working S) → List ClientWorker → Type 0
+ReportedFirst k drivers workers clients = (j : ℕ) (d : Driver) → j < k → ReportedAt j (get_or drivers j d).pass.seen workers clients
 
 -- the driver was informed of all that the workers of the first k replicas had seen of their logs
-abbrev pub HeardFirst : {S : Type 0} → ℕ → List (Crew S) → List Driver → Type 0
-HeardFirst k crews drivers = (j : ℕ) (d : Driver) → j < k → IsPrefix (seen_at crews j) (get_or drivers j d).pass.seen
+abbrev pub HeardFirst : {S : Type 0} → ℕ → List (Working S) → List Driver → Type 0
+HeardFirst k workers drivers = (j : ℕ) (d : Driver) → j < k → IsPrefix (seen_at workers j) (get_or drivers j d).pass.seen

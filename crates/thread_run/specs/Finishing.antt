@@ -17,22 +17,8 @@ use Rattle.plan_text.specs.declared.plan.Client.{Client as Sender}
 use Rattle.plan_text.specs.declared.plan.Plan.{Plan}
 use Rattle.replica_seat.specs.Feed.{arrivals_for}
 use Rattle.round_rules.specs.Submissions.{submitted_to}
-use Rattle.thread_run.specs.declared.crew.Crew.{Crew}
-use Rattle.thread_run.specs.declared.crew.Crew.TheVariants.{Replica, Client}
 use Rattle.thread_run.specs.declared.driver.Driver.{Driver}
 use Rattle.thread_run.specs.Going.{HasGiven}
-use Rattle.thread_run.specs.Workers.{Working}
-
--- ---- workers taken apart
-
--- the worker of a replica, and that of a client
-abbrev pub replica_in : {S : Type 0} → Crew S → List (Working S)
-replica_in (Replica w) = w ∷ []
-replica_in (Client c) = []
-
-abbrev pub client_in : {S : Type 0} → Crew S → List ClientWorker
-client_in (Replica w) = []
-client_in (Client c) = c ∷ []
 
 -- ---- passes
 

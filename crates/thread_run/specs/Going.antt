@@ -8,7 +8,7 @@ use Rattle.locked_log.specs.History.{Known}
 use Rattle.arrival_log.specs.Arrivals.{IsArrivals}
 use Rattle.arrival_log.specs.declared.log.SubmitFault.{SubmitFault}
 use Rattle.arrival_log.specs.declared.log.SubmitFault.TheVariants.{Full}
-use Rattle.client_logs.specs.Clients.{IsFresh}
+use Rattle.client_logs.specs.Clients.{IsFresh, OfClient}
 use Rattle.client_logs.specs.Submitted.{HoldsEach, Stands, StandsAt}
 use Rattle.client_logs.specs.declared.client.Client.{Client as ClientWorker}
 use Rattle.plan_text.specs.declared.plan.Client.{Client as Sender}
@@ -22,15 +22,12 @@ use Rattle.replica_seat.specs.declared.arrivals.TimedTx.{TimedTx}
 use Rattle.round_rules.specs.Moments.{Moment, due_in, turns_at}
 use Rattle.round_rules.specs.Ran.{AreMerges, IsShaped, journal_in}
 use Rattle.round_rules.specs.Rounds.{HasGone}
-use Rattle.thread_run.specs.declared.crew.Crew.{Crew}
-use Rattle.thread_run.specs.declared.crew.Crew.TheVariants.{Replica, Client}
 use Rattle.thread_run.specs.declared.driver.Driver.{Driver}
 use Rattle.thread_run.specs.declared.runs.Run.{Run}
-use Rattle.thread_run.specs.Crews.{Ready}
 use Rattle.thread_run.specs.Standing.{AllStand, journals_at, seen_at}
 use Rattle.thread_run.specs.Exchange.{AreSeated, IsDriverOf}
 use Rattle.thread_run.specs.Timely.{GainsFrom, IsTimely}
-use Rattle.thread_run.specs.Workers.{Working}
+use Rattle.thread_run.specs.Workers.{Ready, Working}
 
 -- ---- all workers
 
@@ -64,27 +61,31 @@ pub record DriverGoes (old new : Driver) : Type 0 where
   pub gains : GainsFrom (length old.pass.seen) old.pass new.pass
   pub fault : new.fault ≡ None → old.fault ≡ None
 
--- There is a log, a mailbox and a worker for each replica, then a worker for each client of the plan, and the driver's
--- state for each log. The passes of a log are the driver's, its replica's, and one of each client. Nothing was
--- submitted with the replica's pass.
+-- the client is one of the plan
+abbrev pub IsClientOf : Sender → ClientWorker → Type 0
+IsClientOf p c = (c.id ≡ p.id) × (c.count ≡ p.count)
+
+-- There is a log, a mailbox and a worker for each replica, a client for each client of the plan, and the driver's state
+-- for each log. The passes of a log are the driver's, its replica's, and one of each client. Nothing was submitted with
+-- the replica's pass.
 pub record IsManned {S : Type 0} (plan : Plan) (run : Run S) : Type 0 where
   pub logs : length run.world.logs.items ≡ plan.setting.n
   pub boxes : length run.world.boxes.items ≡ plan.setting.n
-  pub crews : length run.crews.items ≡ plan.setting.n + length plan.clients
-  pub ready : All (Ready run.world.logs.items run.world.boxes.items) run.crews.items
-  pub seats : AreSeated run.crews.items
-  pub replicas : (at : ℕ) → at < plan.setting.n → (w : Working S) × (slice_get run.crews.items at ≡ Some (Replica w)) × IsFresh w.log × (w.failed ≡ false)
-  pub clients : (k : ℕ) (p : Sender) → slice_get plan.clients k ≡ Some p
-      → (c : ClientWorker) × (slice_get run.crews.items (plan.setting.n + k) ≡ Some (Client c)) × (c.id ≡ p.id) × (c.count ≡ p.count)
+  pub workers : length run.workers.items ≡ plan.setting.n
+  pub ready : All (Ready run.world.logs.items run.world.boxes.items) run.workers.items
+  pub of : All (OfClient run.world.logs.items) run.clients.items
+  pub seats : AreSeated run.workers.items
+  pub replicas : (at : ℕ) → at < plan.setting.n → (w : Working S) × (slice_get run.workers.items at ≡ Some w) × IsFresh w.log × (w.failed ≡ false)
+  pub clients : AllZip IsClientOf plan.clients run.clients.items
   pub drivers : AllZip IsDriverOf run.world.logs.items run.drivers.items
   pub parts : AllZip (λ log d. log.parts ≡ d.pass.parts + 1 + length plan.clients) run.world.logs.items run.drivers.items
   pub given : (at : ℕ) (d : Driver) → slice_get run.drivers.items at ≡ Some d → HasGiven (arrivals_for plan.arrivals at) d
   pub due : run.due ≡ due_in plan
 
 -- each log took all that was submitted to it
-pub record AllTaken {S : Type 0} (drivers : List Driver) (crews : List (Crew S)) : Type 0 where
+pub record AllTaken (drivers : List Driver) (clients : List ClientWorker) : Type 0 where
   pub drivers_took : (at : ℕ) (d : Driver) → slice_get drivers at ≡ Some d → d.fault ≡ None
-  pub clients_took : (k : ℕ) (c : ClientWorker) → slice_get crews k ≡ Some (Client c) → c.fault ≡ None
+  pub clients_took : (k : ℕ) (c : ClientWorker) → slice_get clients k ≡ Some c → c.fault ≡ None
 
 -- ---- between two rounds
 
@@ -99,19 +100,19 @@ module _ {S : Type 0} (fits : Check) (plan : Plan) (m : Meaning S) (gives : ℕ 
   -- log took everything, then at the ticks and before the deliveries held what rounds preserve.
   pub record IsGoing (rounds ticks : ℕ) (run : Run S) : Type 0 where
     pub manned : IsManned plan run
-    pub stand : AllStand fits plan m gives capacity run.crews.items
-    pub turns : run.turns ≡ turns_at plan (journals_at run.crews.items)
+    pub stand : AllStand fits plan m gives capacity run.workers.items
+    pub turns : run.turns ≡ turns_at plan (journals_at run.workers.items)
     pub few : run.turns < plan.turns + 32 * plan.setting.n
-    pub next : (k : ℕ) (c : ClientWorker) → slice_get run.crews.items k ≡ Some (Client c) → c.fault ≡ None → c.next ≡ min c.count (64 * rounds)
-    pub timely : IsTimely plan ticks run.turns (journals_at run.crews.items) run.drivers.items
-    pub gone : AllTaken run.drivers.items run.crews.items → HasGoneOn rounds ticks (journals_at run.crews.items)
+    pub next : (k : ℕ) (c : ClientWorker) → slice_get run.clients.items k ≡ Some c → c.fault ≡ None → c.next ≡ min c.count (64 * rounds)
+    pub timely : IsTimely plan ticks run.turns (journals_at run.workers.items) run.drivers.items
+    pub gone : AllTaken run.drivers.items run.clients.items → HasGoneOn rounds ticks (journals_at run.workers.items)
 
 -- ---- once the replicas stopped
 
 -- all transactions of the clients and the driver were submitted, unless a log did not take something
 pub record HasStopped {S : Type 0} (plan : Plan) (run : Run S) : Type 0 where
   pub manned : IsManned plan run
-  pub clients : (k : ℕ) (c : ClientWorker) → slice_get run.crews.items k ≡ Some (Client c) → c.fault ≡ None → c.next ≡ c.count
+  pub clients : (k : ℕ) (c : ClientWorker) → slice_get run.clients.items k ≡ Some c → c.fault ≡ None → c.next ≡ c.count
   pub drivers : (at : ℕ) (d : Driver) → slice_get run.drivers.items at ≡ Some d → d.fault ≡ None → d.feed.left ≡ []
 
 -- a pass has seen a prefix of a list, and each of these arrivals stands in the list at an own place of the pass
@@ -123,12 +124,12 @@ pub record IsOwned (all : List TimedTx) (pass : Known Tx) (list : List Tx) : Typ
 -- logs. In them each arrival stands at an own place of the driver's pass. The journals of the record are those of the
 -- workers. Where each worker stands at its place, `AreShown` relates heads and batches to these journals.
 pub record Shows {S : Type 0} (plan : Plan) (run : Run S) (shown : RunRecord) : Type 0 where
-  pub taken : AllTaken run.drivers.items run.crews.items
+  pub taken : AllTaken run.drivers.items run.clients.items
   pub shape : IsShaped plan shown
   pub arrivals : AreMerges plan shown
   pub lists : (at : ℕ) → at < plan.setting.n → IsArrivals (get_or shown.arrivals at [])
-  pub reported : (at : ℕ) → at < plan.setting.n → IsPrefix (seen_at run.crews.items at) (get_or shown.arrivals at [])
+  pub reported : (at : ℕ) → at < plan.setting.n → IsPrefix (seen_at run.workers.items at) (get_or shown.arrivals at [])
   pub owned : (at : ℕ) (d : Driver) → at < plan.setting.n → slice_get run.drivers.items at ≡ Some d → IsOwned (arrivals_for plan.arrivals at) d.pass (get_or shown.arrivals at [])
-  pub journals : (at : ℕ) → at < plan.setting.n → journal_in shown at ≡ journals_at run.crews.items at
+  pub journals : (at : ℕ) → at < plan.setting.n → journal_in shown at ≡ journals_at run.workers.items at
   pub turns : shown.turns ≡ run.turns
   pub ticks : shown.ticks ≡ run.ticks

@@ -1,6 +1,5 @@
 pub mod Signers
 pub mod Workers
-pub mod Crews
 pub mod News
 pub mod Standing
 pub mod Pairs

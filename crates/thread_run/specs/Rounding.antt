@@ -18,7 +18,7 @@ module _ {S : Type 0} (fits : Check) (plan : Plan) (m : Meaning S) where
     pub rounds : ℕ
     pub ticks : ℕ
     pub going : IsGoing fits plan m gives capacity rounds ticks run
-    pub may : MayTick fits plan gives capacity (journals_at run.crews.items) tick
+    pub may : MayTick fits plan gives capacity (journals_at run.workers.items) tick
     pub first : rounds ≡ 0 → tick ≡ None
     pub counted : run.ticks ≡ ticks + ticks_of tick
 

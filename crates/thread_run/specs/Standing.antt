@@ -13,8 +13,6 @@ use Rattle.replica_seat.specs.Opening.{fresh_replica}
 use Rattle.round_rules.specs.Journals.{events_of}
 use Rattle.round_rules.specs.Moments.{Moment}
 use Rattle.thread_run.specs.Workers.{Did, Working}
-use Rattle.thread_run.specs.declared.crew.Crew.{Crew}
-use Rattle.thread_run.specs.declared.crew.Crew.TheVariants.{Replica, Client}
 
 -- a worker before its first event: it has received and sent nothing, and its node knows nothing
 pub record IsNew {S : Type 0} (plan : Plan) (m : Meaning S) (gives : Gives) (capacity at : ℕ) (w : Working S) : Type 0 where
@@ -33,25 +31,23 @@ pub record Stands {S : Type 0} (fits : Check) (plan : Plan) (m : Meaning S) (giv
 
 -- ---- all workers
 
--- the journals of the replicas' workers, each at its place, and what their passes have seen
-abbrev pub journal_of : {S : Type 0} → Crew S → List Entry
-journal_of (Replica w) = w.seat.journal
-journal_of (Client c) = []
+-- the journal of a worker, and what its pass of its log has seen; and those of the worker at a place
+abbrev pub journal_of : {S : Type 0} → Working S → List Entry
+journal_of w = w.seat.journal
 
-abbrev pub seen_by : {S : Type 0} → Crew S → List Tx
-seen_by (Replica w) = w.log.seen
-seen_by (Client c) = []
+abbrev pub seen_by : {S : Type 0} → Working S → List Tx
+seen_by w = w.log.seen
 
-abbrev pub journals_at : {S : Type 0} → List (Crew S) → Moment
-journals_at crews at = option_map_or journal_of (slice_get crews at) []
+abbrev pub journals_at : {S : Type 0} → List (Working S) → Moment
+journals_at workers at = option_map_or journal_of (slice_get workers at) []
 
-abbrev pub seen_at : {S : Type 0} → List (Crew S) → ℕ → List Tx
-seen_at crews at = option_map_or seen_by (slice_get crews at) []
+abbrev pub seen_at : {S : Type 0} → List (Working S) → ℕ → List Tx
+seen_at workers at = option_map_or seen_by (slice_get workers at) []
 
 -- each replica's worker stands at its place
-abbrev pub AllStand : {S : Type 0} → Check → Plan → Meaning S → (ℕ → Gives) → ℕ → List (Crew S) → Type 0
-AllStand {S = S} fits plan m gives capacity crews = (at : ℕ) → at < plan.setting.n → (w : Working S) × (slice_get crews at ≡ Some (Replica w)) × Stands fits plan m (gives at) capacity at w
+abbrev pub AllStand : {S : Type 0} → Check → Plan → Meaning S → (ℕ → Gives) → ℕ → List (Working S) → Type 0
+AllStand {S = S} fits plan m gives capacity workers = (at : ℕ) → at < plan.setting.n → (w : Working S) × (slice_get workers at ≡ Some w) × Stands fits plan m (gives at) capacity at w
 
 -- no replica's worker was out of memory
-abbrev pub NoneFailed : {S : Type 0} → List (Crew S) → Type 0
-NoneFailed {S = S} crews = (at : ℕ) (w : Working S) → slice_get crews at ≡ Some (Replica w) → w.failed ≡ false
+abbrev pub NoneFailed : {S : Type 0} → List (Working S) → Type 0
+NoneFailed {S = S} workers = (at : ℕ) (w : Working S) → slice_get workers at ≡ Some w → w.failed ≡ false

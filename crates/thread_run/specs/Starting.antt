@@ -1,5 +1,5 @@
 -- The start of a threaded run.
-use Rattle.std.specs.Prelude.{◌≡◌, ℕ, ◌+◌, ◌<◌, ◌≤◌, List, [], ◌∷◌, ◌++◌, Some, None, false, map, length, slice_get}
+use Rattle.std.specs.Prelude.{◌≡◌, ℕ, ◌+◌, ◌<◌, ◌≤◌, List, [], ◌∷◌, Some, None, false, map, length, slice_get}
 use Rattle.std.specs.Global.{Vec}
 use Rattle.seq_base.specs.declared.tx.Tx.{Tx}
 use Rattle.locked_log.specs.History.{IsPassOf, Known, Opened as Log, known}
@@ -10,8 +10,6 @@ use Rattle.plan_text.specs.declared.plan.Arrival.{Arrival}
 use Rattle.plan_text.specs.declared.plan.Client.{Client as Sender}
 use Rattle.replica_seat.specs.Feed.{feed_without_clients}
 use Rattle.replica_seat.specs.Seats.{Seated}
-use Rattle.thread_run.specs.declared.crew.Crew.{Crew}
-use Rattle.thread_run.specs.declared.crew.Crew.TheVariants.{Replica, Client}
 use Rattle.thread_run.specs.declared.driver.Driver.{Driver}
 use Rattle.thread_run.specs.Workers.{Working}
 
@@ -65,7 +63,3 @@ workers_from at (s ∷ ss) [] ts rows = []
 workers_from at (s ∷ ss) (o ∷ os) [] rows = []
 workers_from at (s ∷ ss) (o ∷ os) (t ∷ ts) [] = []
 workers_from at (s ∷ ss) (o ∷ os) (t ∷ ts) (row ∷ rows) = worker_with at s o t row ∷ workers_from (at + 1) ss os ts rows
-
--- all workers: those of the replicas, followed by those of the clients
-abbrev pub crews_from : {S : Type 0} → List (Working S) → List ClientWorker → List (Crew S)
-crews_from workers clients = map Replica workers ++ map Client clients

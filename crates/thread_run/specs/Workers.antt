@@ -3,6 +3,8 @@ use Rattle.std.specs.Prelude.{◌≡◌, ◌⊎◌, ℕ, ◌+◌, ◌<◌, ◌�
 use Rattle.std.specs.List.{AllZip, flat_map, fold}
 use mathlib.Core.List.{IsPrefix}
 use Rattle.seq_base.specs.declared.tx.Tx.{Tx}
+use Rattle.client_logs.specs.Clients.{Goes, OfClient}
+use Rattle.client_logs.specs.declared.client.Client.{Client as ClientWorker}
 use Rattle.locked_log.specs.History.{HasLooked, IsPassOf, Known, Opened as Log}
 use Rattle.mailbox.specs.Boxes.{IsSenderOf, IsReceiverOf, Opened as Box, Sender, Receiver, sent_more}
 use Rattle.mailbox.specs.Mail.{Emptied, WasEmpty}
@@ -124,3 +126,25 @@ pub record Works {S : Type 0} (fits : Check) (plan : Plan) (m : Meaning S) (tick
 -- A round delivers what waits: as many envelopes as it may, or all that the worker was informed of before the round.
 abbrev pub Drains : {S : Type 0} → ℕ → Working S → Working S → Type 0
 Drains most old new = (new.turns ≡ old.turns + most) ⊎ Emptied new.take.taken old.take.heard
+
+-- ---- a round of a worker
+
+-- A replica's worker whose passes belong to these logs and mailboxes. Its count of turns has room for a round.
+abbrev pub Ready : {S : Type 0} → List Log → List Box → Working S → Type 0
+Ready logs boxes w = Belongs logs boxes w × (w.turns + 32 < 4294967296)
+
+-- what it did, unless memory ran out
+abbrev pub Worked : {S : Type 0} → Check → Plan → Meaning S → List Log → List Box → Option ℕ → Working S → Working S → Type 0
+Worked fits plan m logs boxes tick old new = new.failed ≡ false → Works fits plan m tick old new × Belongs logs boxes new
+
+-- It delivered at most this many envelopes, unless memory ran out.
+abbrev pub DeliversFew : {S : Type 0} → ℕ → Working S → Working S → Type 0
+DeliversFew most old new = new.failed ≡ false → new.turns ≤ old.turns + most
+
+-- It delivered what was waiting, unless memory ran out.
+abbrev pub Drained : {S : Type 0} → ℕ → Working S → Working S → Type 0
+Drained most old new = new.failed ≡ false → Drains most old new
+
+-- a client's round
+abbrev pub ClientWorked : List Log → ClientWorker → ClientWorker → Type 0
+ClientWorked logs old new = OfClient logs new × Goes old new

@@ -1,7 +1,6 @@
 //! The record of a run that ended.
 
-ghost use Rattle.std.specs.Prelude.{◌≡◌, ◌<◌, ◌∷◌, ◌++◌, ℕ, map, length, slice_get, remove, IfOk, OnOk, All};
-ghost use Rattle.std.specs.List.{flat_map};
+ghost use Rattle.std.specs.Prelude.{◌≡◌, ◌<◌, ◌∷◌, ◌++◌, ℕ, [], map, length, slice_get, remove, IfOk, OnOk, All};
 ghost use Rattle.std.specs.Option.{option_to_list};
 ghost use Rattle.node_core.specs.Rows.{Check};
 ghost use Rattle.node_core.specs.Reported.{Gives};
@@ -11,9 +10,8 @@ ghost use Rattle.round_rules.specs.Ran.{AreShown};
 ghost use Rattle.thread_run.specs.Going.{HasStopped, Shows};
 ghost use Rattle.thread_run.specs.Standing.{AllStand, journals_at};
 ghost use Rattle.locked_log.specs.History.{IsPassOf};
-ghost use Rattle.thread_run.specs.Finishing.{AreAllPasses, AreFinished, CanFinish, HadMemory, HasJoined, IsListOf, client_in, column, later_columns, replica_in, rows_of};
+ghost use Rattle.thread_run.specs.Finishing.{AreAllPasses, AreFinished, CanFinish, HadMemory, HasJoined, IsListOf, column, later_columns, rows_of};
 
-use crate::crew::Crew;
 use crate::driver::Driver;
 use crate::replica::Worker;
 use crate::runs::Run;
@@ -27,12 +25,11 @@ use seal_kit::Sealer;
 use seq_base::{NoMemory, TxList, TxLists};
 use std::alloc::Global;
 
-/// The workers of a run, taken apart.
+/// The replicas' workers, taken apart.
 #[derive(Drop)]
 struct WorkersApart<S: Sealer> {
     seats: Vec<Seat<S>>,
     own: Vec<LogPass>,
-    clients: Vec<Client>,
 }
 
 /// Returns the record of a run that ended.
@@ -40,25 +37,22 @@ pub(crate) fn record_of<S: Sealer>(plan: &Plan, run: Run<S>) -> Result<RunRecord
     requires stopped { HasStopped plan.now run }
     requires rules { KeepsRules plan.now }
     ensures shows { IfOk result (λ shown. Shows plan.now run shown) }
-    ensures shown { IfOk result (λ shown. (fits : Check) (gives : ℕ → Gives) (capacity : ℕ) → AllStand fits plan.now (meaning S.replica S.gives) gives capacity run.crews.items
-        → AreShown fits plan.now gives capacity shown (journals_at run.crews.items)) }
+    ensures shown { IfOk result (λ shown. (fits : Check) (gives : ℕ → Gives) (capacity : ℕ) → AllStand fits plan.now (meaning S.replica S.gives) gives capacity run.workers.items
+        → AreShown fits plan.now gives capacity shown (journals_at run.workers.items)) }
     ensures readable { IfOk result (λ shown. All (λ journal. AreReadable journal.entries) shown.journals) }
 {
     shared_logs_are_merges();
     let Run {
         alloc,
         world,
-        crews,
+        workers,
+        clients,
         drivers,
         turns,
         ticks,
         ..
     } = run;
-    let WorkersApart {
-        seats,
-        own,
-        clients,
-    } = apart(alloc, crews)?;
+    let WorkersApart { seats, own } = apart(alloc, workers)?;
     drivers_had_memory(drivers.as_slice())?;
     clients_had_memory(clients.as_slice())?;
     let World { logs, .. } = world;
@@ -78,47 +72,37 @@ pub(crate) fn record_of<S: Sealer>(plan: &Plan, run: Run<S>) -> Result<RunRecord
     })
 }
 
-/// The parts of the workers of a run, by kind.
-fn apart<S: Sealer>(alloc: Global, crews: Vec<Crew<S>>) -> Result<WorkersApart<S>, NoMemory>
-    ensures seats { IfOk result (λ a. a.seats.items ≡ map (λ w. w.seat) (flat_map replica_in crews.items)) }
-    ensures own { IfOk result (λ a. a.own.items ≡ map (λ w. w.log) (flat_map replica_in crews.items)) }
-    ensures clients { IfOk result (λ a. a.clients.items ≡ flat_map client_in crews.items) }
+/// The seats of the replicas' workers, and their passes of the logs.
+fn apart<S: Sealer>(alloc: Global, workers: Vec<Worker<S>>) -> Result<WorkersApart<S>, NoMemory>
+    ensures seats { IfOk result (λ a. a.seats.items ≡ map (λ w. w.seat) workers.items) }
+    ensures own { IfOk result (λ a. a.own.items ≡ map (λ w. w.log) workers.items) }
 {
     let mut apart = WorkersApart {
         seats: Vec::new(alloc),
         own: Vec::new(alloc),
-        clients: Vec::new(alloc),
     };
-    take_all(&mut apart, crews)?;
+    take_all(&mut apart, workers)?;
     Ok(apart)
 }
 
 /// Takes each worker apart.
-fn take_all<S: Sealer>(apart: &mut WorkersApart<S>, crews: Vec<Crew<S>>) -> Result<(), NoMemory>
-    ensures seats { OnOk result (apart.new.seats.items ≡ apart.old.seats.items ++ map (λ w. w.seat) (flat_map replica_in crews.items)) }
-    ensures own { OnOk result (apart.new.own.items ≡ apart.old.own.items ++ map (λ w. w.log) (flat_map replica_in crews.items)) }
-    ensures clients { OnOk result (apart.new.clients.items ≡ apart.old.clients.items ++ flat_map client_in crews.items) }
+fn take_all<S: Sealer>(apart: &mut WorkersApart<S>, workers: Vec<Worker<S>>) -> Result<(), NoMemory>
+    ensures seats { OnOk result (apart.new.seats.items ≡ apart.old.seats.items ++ map (λ w. w.seat) workers.items) }
+    ensures own { OnOk result (apart.new.own.items ≡ apart.old.own.items ++ map (λ w. w.log) workers.items) }
 {
-    for crew in crews {
-        take_one(apart, crew)?;
+    for worker in workers {
+        take_one(apart, worker)?;
     }
     Ok(())
 }
 
-/// Takes a worker apart.
-fn take_one<S: Sealer>(apart: &mut WorkersApart<S>, crew: Crew<S>) -> Result<(), NoMemory>
-    ensures seats { OnOk result (apart.new.seats.items ≡ apart.old.seats.items ++ map (λ w. w.seat) (replica_in crew)) }
-    ensures own { OnOk result (apart.new.own.items ≡ apart.old.own.items ++ map (λ w. w.log) (replica_in crew)) }
-    ensures clients { OnOk result (apart.new.clients.items ≡ apart.old.clients.items ++ client_in crew) }
+fn take_one<S: Sealer>(apart: &mut WorkersApart<S>, worker: Worker<S>) -> Result<(), NoMemory>
+    ensures seats { OnOk result (apart.new.seats.items ≡ apart.old.seats.items ++ worker.seat ∷ []) }
+    ensures own { OnOk result (apart.new.own.items ≡ apart.old.own.items ++ worker.log ∷ []) }
 {
-    match crew {
-        Crew::Replica(worker) => {
-            let Worker { seat, log, .. } = worker;
-            apart.seats.push(seat)?;
-            apart.own.push(log)?;
-        }
-        Crew::Client(client) => apart.clients.push(client)?,
-    }
+    let Worker { seat, log, .. } = worker;
+    apart.seats.push(seat)?;
+    apart.own.push(log)?;
     Ok(())
 }
 
@@ -136,7 +120,7 @@ fn drivers_had_memory(drivers: &[Driver]) -> Result<(), NoMemory>
 
 /// Ends the run where a log was out of memory for what a client submitted.
 #[tactic(auto, using(crate::proofs::ListUpdates::all_more, crate::proofs::ListUpdates::all_taken))]
-fn clients_had_memory(clients: &[Client]) -> Result<(), NoMemory>
+pub(crate) fn clients_had_memory(clients: &[Client]) -> Result<(), NoMemory>
     ensures { OnOk result (All (λ c. HadMemory c.fault) clients.now) }
 {
     let count = clients.len();

@@ -13,13 +13,13 @@
 //! its round, and nothing waits for it. Only a test shows that workers really run concurrently (`tests_threads`).
 #![tactic(auto)]
 
-mod crew;
 mod driver;
 mod exchange;
 mod finish;
 mod news;
 mod pairs;
 mod replica;
+mod round;
 mod runs;
 mod start;
 mod world;

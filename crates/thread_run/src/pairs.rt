@@ -3,11 +3,9 @@
 ghost use Rattle.std.specs.Prelude.{◌≡◌, ◌<◌, true, false, length, get_or, All};
 ghost use Rattle.std.specs.List.{AllZip};
 ghost use Rattle.mailbox.specs.Boxes.{IsSenderOf, IsReceiverOf, Opened};
-ghost use Rattle.thread_run.specs.Crews.{Ready};
 ghost use Rattle.thread_run.specs.Pairs.{AllCompared, Answers, AnswersAll, AnswersAt, AnswersRow, Compared};
-ghost use Rattle.thread_run.specs.Workers.{Belongs};
+ghost use Rattle.thread_run.specs.Workers.{Belongs, Ready};
 
-use crate::crew::Crew;
 use crate::replica::Worker;
 use crate::world::World;
 use mailbox::{Mailbox, SendPass, TakePass};
@@ -41,7 +39,7 @@ fn pair_is_whole<S: Sealer, R: Wait>(
     requires receiver { Belongs world.now.logs.items world.now.boxes.items receiver.old }
     requires sender { Belongs world.now.logs.items world.now.boxes.items sender.old }
     ensures same { (receiver.new ≡ receiver.old) × (sender.new ≡ sender.old) }
-    ensures compared { Compared result receiver.old.at receiver.old.take.taken sender.old.sends }
+    ensures answers { Answers result receiver.old sender.old }
 {
     let at = receiver.at as usize;
     compare(
@@ -57,7 +55,7 @@ fn pair_is_whole<S: Sealer, R: Wait>(
 fn own_is_whole<S: Sealer, R: Wait>(rt: &R, world: &World, worker: &mut Worker<S>) -> bool
     requires { Belongs world.now.logs.items world.now.boxes.items worker.old }
     ensures same { worker.new ≡ worker.old }
-    ensures compared { Compared result worker.old.at worker.old.take.taken worker.old.sends }
+    ensures answers { Answers result worker.old worker.old }
 {
     let at = worker.at as usize;
     compare(
@@ -69,45 +67,12 @@ fn own_is_whole<S: Sealer, R: Wait>(rt: &R, world: &World, worker: &mut Worker<S
     )
 }
 
-/// The same for any two workers. For a client there is nothing to compare.
-fn two_are_whole<S: Sealer, R: Wait>(
-    rt: &R,
-    world: &World,
-    receiver: &mut Crew<S>,
-    sender: &mut Crew<S>,
-) -> bool
-    requires receiver { Ready world.now.logs.items world.now.boxes.items receiver.old }
-    requires sender { Ready world.now.logs.items world.now.boxes.items sender.old }
-    ensures same { (receiver.new ≡ receiver.old) × (sender.new ≡ sender.old) }
-    ensures answers { Answers result receiver.old sender.old }
-{
-    match receiver {
-        Crew::Replica(one) => match sender {
-            Crew::Replica(other) => pair_is_whole(rt, world, one, other),
-            Crew::Client(_) => true,
-        },
-        Crew::Client(_) => true,
-    }
-}
-
-/// The same for any worker and itself.
-fn one_is_whole<S: Sealer, R: Wait>(rt: &R, world: &World, crew: &mut Crew<S>) -> bool
-    requires { Ready world.now.logs.items world.now.boxes.items crew.old }
-    ensures same { crew.new ≡ crew.old }
-    ensures answers { Answers result crew.old crew.old }
-{
-    match crew {
-        Crew::Replica(worker) => own_is_whole(rt, world, worker),
-        Crew::Client(_) => true,
-    }
-}
-
 /// The same for any two workers, where either the first or the second is the receiver.
 fn either_is_whole<S: Sealer, R: Wait>(
     rt: &R,
     world: &World,
-    one: &mut Crew<S>,
-    other: &mut Crew<S>,
+    one: &mut Worker<S>,
+    other: &mut Worker<S>,
     one_takes: bool,
 ) -> bool
     requires one { Ready world.now.logs.items world.now.boxes.items one.old }
@@ -117,9 +82,9 @@ fn either_is_whole<S: Sealer, R: Wait>(
     ensures second { one_takes ≡ false → Answers result other.old one.old }
 {
     if one_takes {
-        two_are_whole(rt, world, one, other)
+        pair_is_whole(rt, world, one, other)
     } else {
-        two_are_whole(rt, world, other, one)
+        pair_is_whole(rt, world, other, one)
     }
 }
 
@@ -127,18 +92,18 @@ fn either_is_whole<S: Sealer, R: Wait>(
 fn two_in_order<S: Sealer, R: Wait>(
     rt: &R,
     world: &World,
-    crews: &mut [Crew<S>],
+    workers: &mut [Worker<S>],
     low: usize,
     high: usize,
     low_takes: bool,
 ) -> bool
-    requires ready { All (Ready world.now.logs.items world.now.boxes.items) crews.old }
-    requires places { (low < high) × (high < length crews.old) }
-    ensures same { crews.new ≡ crews.old }
-    ensures first { low_takes ≡ true → AnswersAt crews.old low high result }
-    ensures second { low_takes ≡ false → AnswersAt crews.old high low result }
+    requires ready { All (Ready world.now.logs.items world.now.boxes.items) workers.old }
+    requires places { (low < high) × (high < length workers.old) }
+    ensures same { workers.new ≡ workers.old }
+    ensures first { low_takes ≡ true → AnswersAt workers.old low high result }
+    ensures second { low_takes ≡ false → AnswersAt workers.old high low result }
 {
-    let (prefix, back) = crews.split_at_mut(high);
+    let (prefix, back) = workers.split_at_mut(high);
     either_is_whole(rt, world, &mut prefix[low], &mut back[0], low_takes)
 }
 
@@ -146,21 +111,21 @@ fn two_in_order<S: Sealer, R: Wait>(
 fn two_at<S: Sealer, R: Wait>(
     rt: &R,
     world: &World,
-    crews: &mut [Crew<S>],
+    workers: &mut [Worker<S>],
     receiver: usize,
     sender: usize,
 ) -> bool
-    requires ready { All (Ready world.now.logs.items world.now.boxes.items) crews.old }
-    requires places { (receiver < length crews.old) × (sender < length crews.old) }
-    ensures same { crews.new ≡ crews.old }
-    ensures answers { AnswersAt crews.old receiver sender result }
+    requires ready { All (Ready world.now.logs.items world.now.boxes.items) workers.old }
+    requires places { (receiver < length workers.old) × (sender < length workers.old) }
+    ensures same { workers.new ≡ workers.old }
+    ensures answers { AnswersAt workers.old receiver sender result }
 {
     if receiver == sender {
-        one_is_whole(rt, world, &mut crews[receiver])
+        own_is_whole(rt, world, &mut workers[receiver])
     } else if receiver < sender {
-        two_in_order(rt, world, crews, receiver, sender, true)
+        two_in_order(rt, world, workers, receiver, sender, true)
     } else {
-        two_in_order(rt, world, crews, sender, receiver, false)
+        two_in_order(rt, world, workers, sender, receiver, false)
     }
 }
 
@@ -169,17 +134,17 @@ fn two_at<S: Sealer, R: Wait>(
 fn took_all<S: Sealer, R: Wait>(
     rt: &R,
     world: &World,
-    crews: &mut [Crew<S>],
+    workers: &mut [Worker<S>],
     receiver: usize,
 ) -> bool
-    requires ready { All (Ready world.now.logs.items world.now.boxes.items) crews.old }
-    requires place { receiver < length crews.old }
-    ensures same { crews.new ≡ crews.old }
-    ensures answers { AnswersRow crews.old receiver result }
+    requires ready { All (Ready world.now.logs.items world.now.boxes.items) workers.old }
+    requires place { receiver < length workers.old }
+    ensures same { workers.new ≡ workers.old }
+    ensures answers { AnswersRow workers.old receiver result }
 {
     let mut whole = true;
-    for sender in 0..crews.len() {
-        let one = two_at(rt, world, crews, receiver, sender);
+    for sender in 0..workers.len() {
+        let one = two_at(rt, world, workers, receiver, sender);
         whole = whole && one;
     }
     whole
@@ -187,14 +152,14 @@ fn took_all<S: Sealer, R: Wait>(
 
 /// Whether each worker received everything that each worker sent to it. Every pair is compared, also after one whose
 /// comparison is false.
-fn ask_all<S: Sealer, R: Wait>(rt: &R, world: &World, crews: &mut [Crew<S>]) -> bool
-    requires { All (Ready world.now.logs.items world.now.boxes.items) crews.old }
-    ensures same { crews.new ≡ crews.old }
-    ensures answers { AnswersAll crews.old result }
+fn ask_all<S: Sealer, R: Wait>(rt: &R, world: &World, workers: &mut [Worker<S>]) -> bool
+    requires { All (Ready world.now.logs.items world.now.boxes.items) workers.old }
+    ensures same { workers.new ≡ workers.old }
+    ensures answers { AnswersAll workers.old result }
 {
     let mut whole = true;
-    for receiver in 0..crews.len() {
-        let one = took_all(rt, world, crews, receiver);
+    for receiver in 0..workers.len() {
+        let one = took_all(rt, world, workers, receiver);
         whole = whole && one;
     }
     whole
@@ -203,10 +168,14 @@ fn ask_all<S: Sealer, R: Wait>(rt: &R, world: &World, crews: &mut [Crew<S>]) -> 
 /// Whether every worker received everything that was sent to its mailbox. Afterwards every mailbox was compared with
 /// every sender.
 #[tactic(auto, using(crate::proofs::Comparisons::all_compared))]
-pub(crate) fn all_whole<S: Sealer, R: Wait>(rt: &R, world: &World, crews: &mut [Crew<S>]) -> bool
-    requires { All (Ready world.now.logs.items world.now.boxes.items) crews.old }
-    ensures same { crews.new ≡ crews.old }
-    ensures compared { AllCompared result crews.old }
+pub(crate) fn all_whole<S: Sealer, R: Wait>(
+    rt: &R,
+    world: &World,
+    workers: &mut [Worker<S>],
+) -> bool
+    requires { All (Ready world.now.logs.items world.now.boxes.items) workers.old }
+    ensures same { workers.new ≡ workers.old }
+    ensures compared { AllCompared result workers.old }
 {
-    ask_all(rt, world, crews)
+    ask_all(rt, world, workers)
 }

@@ -1,6 +1,6 @@
 //! The rounds of a run.
 
-ghost use Rattle.std.specs.Prelude.{◌≡◌, ◌≤◌, ◌<◌, ◌+◌, ◌*◌, ℕ, [], true, None, length, map, get_or, IfOk, OnOk, All};
+ghost use Rattle.std.specs.Prelude.{◌≡◌, ◌≤◌, ◌<◌, ◌+◌, ◌*◌, ℕ, [], true, false, None, length, map, get_or, IfOk, OnOk, All};
 ghost use Rattle.std.specs.List.{AllZip, fold};
 ghost use Rattle.client_logs.specs.Clients.{OfClient};
 ghost use Rattle.fault_script.specs.Sealing.{signers_of};
@@ -11,21 +11,21 @@ ghost use Rattle.replica_seat.specs.Seats.{AreReadable, meaning};
 ghost use Rattle.round_rules.specs.Moments.{everyone};
 ghost use Rattle.round_rules.specs.Ran.{Ran};
 ghost use Rattle.thread_run.specs.Concluding.{Completes, HasEnded, WentOn};
-ghost use Rattle.thread_run.specs.Crews.{Ready};
 ghost use Rattle.thread_run.specs.Going.{HasStopped, IsManned};
 ghost use Rattle.thread_run.specs.Rounding.{Follows};
 ghost use Rattle.thread_run.specs.Signers.{fresh_signers};
-ghost use Rattle.thread_run.specs.Steps.{AnswersDone, AreCounted, HasFew, HasHeard, HasMemory, HasSubmitted, IsCounted, IsDecided, IsStep, floor_by, holds_by, most_in, turns_by, HasReported};
+ghost use Rattle.thread_run.specs.Steps.{AnswersDone, AreCounted, HasFew, HasHeard, HasSubmitted, IsCounted, IsDecided, IsStep, floor_by, holds_by, most_in, HasReported};
 ghost use Rattle.thread_run.specs.declared.runs.Next.TheVariants.{Ends, Goes};
 
-use crate::crew::{Crew, round};
 use crate::driver::Driver;
 use crate::exchange::report_all;
-use crate::finish::record_of;
+use crate::finish::{clients_had_memory, record_of};
 use crate::pairs::all_whole;
+use crate::replica::Worker;
+use crate::round::round;
 use crate::start::start;
 use crate::world::World;
-use arrival_log::{SharedLog, SubmitFault};
+use arrival_log::SharedLog;
 use client_logs::Client;
 use plan_text::Plan;
 use round_rules::rounds_are_what_a_record_says;
@@ -41,8 +41,9 @@ use std::thread::Threads;
 pub(crate) struct Run<S: Sealer> {
     pub(crate) alloc: Global,
     pub(crate) world: World,
-    /// The workers of the replicas, followed by those of the clients.
-    pub(crate) crews: Vec<Crew<S>>,
+    /// The workers of the replicas.
+    pub(crate) workers: Vec<Worker<S>>,
+    pub(crate) clients: Vec<Client>,
     /// The driver's state for each log.
     pub(crate) drivers: Vec<Driver>,
     pub(crate) due: TxList,
@@ -148,7 +149,12 @@ impl<S: Sealer> Run<S> {
         requires { IsManned plan.now self.old }
         ensures { HasReported plan.now self.old self.new }
     {
-        report_all(&self.world, &mut self.drivers, self.crews.as_mut_slice());
+        report_all(
+            &self.world,
+            &mut self.drivers,
+            self.workers.as_mut_slice(),
+            self.clients.as_mut_slice(),
+        );
     }
 
     /// Submits what arrives by a count of turns.
@@ -185,10 +191,11 @@ impl<S: Sealer> Run<S> {
             checker,
             tick,
             most,
-            self.crews.as_mut_slice(),
+            self.workers.as_mut_slice(),
+            self.clients.as_mut_slice(),
         );
-        self.turns = turns_of(self.crews.as_slice())?;
-        Ok(())
+        self.turns = turns_of(self.workers.as_slice())?;
+        clients_had_memory(self.clients.as_slice())
     }
 
     /// Decides how the run continues after a round.
@@ -198,7 +205,7 @@ impl<S: Sealer> Run<S> {
         requires counted { IsCounted plan.now self.old }
         ensures { IfOk result (λ next. IsDecided plan.now next self.old self.new) }
     {
-        let whole = all_whole(rt, &self.world, self.crews.as_mut_slice());
+        let whole = all_whole(rt, &self.world, self.workers.as_mut_slice());
         if self.all_hold_due(plan)? || self.turns >= plan.turns {
             return Ok(Next::Ends);
         }
@@ -209,15 +216,15 @@ impl<S: Sealer> Run<S> {
             return Ok(Next::Ends);
         }
         self.ticks += 1;
-        Ok(Next::Goes(Some(floor_of(plan, self.crews.as_slice()))))
+        Ok(Next::Goes(Some(floor_of(plan, self.workers.as_slice()))))
     }
 
     /// Whether each honest replica's batches hold every due transaction.
     fn all_hold_due(&self, plan: &Plan) -> Result<bool, NoMemory>
         ensures { IfOk result (AnswersDone plan.now self.now) }
     {
-        for crew in self.crews.as_slice() {
-            if !holds_due(self.alloc, plan, &self.due, crew)? {
+        for worker in self.workers.as_slice() {
+            if !holds_due(self.alloc, plan, &self.due, worker)? {
                 return Ok(false);
             }
         }
@@ -241,7 +248,7 @@ impl<S: Sealer> Run<S> {
         ensures ended { HasEnded self.old self.new }
         ensures manned { IsManned plan.now self.new }
     {
-        end_all(rt, &self.world, self.crews.as_mut_slice());
+        end_all(rt, &self.world, self.clients.as_mut_slice());
     }
 }
 
@@ -256,25 +263,13 @@ fn most_in(all: u32, turns: u32) -> u32
 }
 
 /// Each client continues until it is done.
-fn end_all<S: Sealer, R: Wait>(rt: &R, world: &World, crews: &mut [Crew<S>])
-    requires ready { All (Ready world.now.logs.items world.now.boxes.items) crews.old }
-    ensures ready { All (Ready world.now.logs.items world.now.boxes.items) crews.new }
-    ensures ends { AllZip Completes crews.old crews.new }
+fn end_all<R: Wait>(rt: &R, world: &World, clients: &mut [Client])
+    requires of { All (OfClient world.now.logs.items) clients.old }
+    ensures of { All (OfClient world.now.logs.items) clients.new }
+    ensures ends { AllZip Completes clients.old clients.new }
 {
-    for at in 0..crews.len() {
-        end_one(rt, world, &mut crews[at]);
-    }
-}
-
-/// If the worker is a client, it continues until it is done.
-fn end_one<S: Sealer, R: Wait>(rt: &R, world: &World, crew: &mut Crew<S>)
-    requires ready { Ready world.now.logs.items world.now.boxes.items crew.old }
-    ensures ready { Ready world.now.logs.items world.now.boxes.items crew.new }
-    ensures ends { Completes crew.old crew.new }
-{
-    match crew {
-        Crew::Replica(_) => (),
-        Crew::Client(client) => end_client(rt, world.logs.as_slice(), client),
+    for at in 0..clients.len() {
+        end_client(rt, world.logs.as_slice(), &mut clients[at]);
     }
 }
 
@@ -282,8 +277,7 @@ fn end_one<S: Sealer, R: Wait>(rt: &R, world: &World, crew: &mut Crew<S>)
 fn end_client<R: Wait>(rt: &R, logs: &[SharedLog], client: &mut Client)
     requires of { OfClient logs.now client.old }
     ensures of { OfClient logs.now client.new }
-    ensures same { (client.new.id ≡ client.old.id) × (client.new.count ≡ client.old.count) }
-    ensures ends { client.new.fault ≡ None → (client.old.fault ≡ None) × (client.new.next ≡ client.new.count) }
+    ensures ends { Completes client.old client.new }
 {
     let rounds = client.count / 64 + 1;
     for round in 0..rounds {
@@ -291,79 +285,61 @@ fn end_client<R: Wait>(rt: &R, logs: &[SharedLog], client: &mut Client)
     }
 }
 
-/// Whether the batches of a worker's node hold every due transaction. True for a faulty replica and for a client.
+/// Whether the batches of a worker's node hold every due transaction. True for a faulty replica.
 fn holds_due<S: Sealer>(
     alloc: Global,
     plan: &Plan,
     due: &TxList,
-    crew: &Crew<S>,
+    worker: &Worker<S>,
 ) -> Result<bool, NoMemory>
-    ensures { IfOk result (λ holds. holds ≡ holds_by plan.now.faulty due.now crew.now) }
+    ensures { IfOk result (λ holds. holds ≡ holds_by plan.now.faulty due.now worker.now) }
 {
-    match crew {
-        Crew::Replica(worker) => {
-            if plan.faulty.has(worker.at) {
-                return Ok(true);
-            }
-            worker.seat.holds_due(alloc, due)
-        }
-        Crew::Client(_) => Ok(true),
+    if plan.faulty.has(worker.at) {
+        return Ok(true);
     }
+    worker.seat.holds_due(alloc, due)
 }
 
 /// How many envelopes were delivered, or out of memory where a worker was.
-fn turns_of<S: Sealer>(crews: &[Crew<S>]) -> Result<u32, NoMemory>
-    requires few { length crews.now ≤ 32 }
-    requires each { All (HasFew 1000000) crews.now }
-    ensures { IfOk result (λ turns. AreCounted (length crews.now) turns crews.now) }
+fn turns_of<S: Sealer>(workers: &[Worker<S>]) -> Result<u32, NoMemory>
+    requires few { length workers.now ≤ 32 }
+    requires each { All (HasFew 1000000) workers.now }
+    ensures { IfOk result (λ turns. AreCounted (length workers.now) turns workers.now) }
 {
     let mut turns = 0;
-    for at in 0..crews.len() {
-        turns += turns_by(&crews[at])?;
+    for at in 0..workers.len() {
+        turns += turns_by(&workers[at])?;
     }
     Ok(turns)
 }
 
 /// How many envelopes a worker delivered, or out of memory where it was.
-fn turns_by<S: Sealer>(crew: &Crew<S>) -> Result<u32, NoMemory>
-    ensures { IfOk result (λ turns. (turns ≡ turns_by crew.now) × HasMemory crew.now) }
+fn turns_by<S: Sealer>(worker: &Worker<S>) -> Result<u32, NoMemory>
+    ensures { IfOk result (λ turns. (turns ≡ worker.now.turns) × (worker.now.failed ≡ false)) }
 {
-    match crew {
-        Crew::Replica(worker) => {
-            if worker.failed {
-                return Err(NoMemory);
-            }
-            Ok(worker.turns)
-        }
-        Crew::Client(client) => match client.fault {
-            Some(SubmitFault::NoMemory) => Err(NoMemory),
-            _ => Ok(0),
-        },
+    if worker.failed {
+        return Err(NoMemory);
     }
+    Ok(worker.turns)
 }
 
 /// The greatest view of the honest replicas.
-fn floor_of<S: Sealer>(plan: &Plan, crews: &[Crew<S>]) -> u32
-    ensures { result ≡ fold (floor_by plan.now.faulty) 0 crews.now }
+fn floor_of<S: Sealer>(plan: &Plan, workers: &[Worker<S>]) -> u32
+    ensures { result ≡ fold (floor_by plan.now.faulty) 0 workers.now }
 {
     let mut floor = 0;
-    for crew in crews {
-        floor = floor_by(plan, floor, crew);
+    for worker in workers {
+        floor = floor_by(plan, floor, worker);
     }
     floor
 }
 
-/// The greater of `floor` and the view of the worker's node. For a faulty replica or a client it is `floor`.
-fn floor_by<S: Sealer>(plan: &Plan, floor: u32, crew: &Crew<S>) -> u32
-    ensures { result ≡ floor_by plan.now.faulty floor crew.now }
+/// The greater of `floor` and the view of the worker's node. For a faulty replica it is `floor`.
+fn floor_by<S: Sealer>(plan: &Plan, floor: u32, worker: &Worker<S>) -> u32
+    ensures { result ≡ floor_by plan.now.faulty floor worker.now }
 {
-    match crew {
-        Crew::Replica(worker) => {
-            if plan.faulty.has(worker.at) {
-                return floor;
-            }
-            worker.seat.node.view().max(floor)
-        }
-        Crew::Client(_) => floor,
+    if plan.faulty.has(worker.at) {
+        return floor;
     }
+    worker.seat.node.view().max(floor)
 }

@@ -13,11 +13,9 @@ ghost use Rattle.locked_log.specs.History.{given, giving};
 ghost use Rattle.thread_run.specs.Finishing.{column, later_columns};
 ghost use Rattle.thread_run.specs.Going.{IsGoing, IsManned};
 ghost use Rattle.thread_run.specs.Signers.{fresh_signers};
-ghost use Rattle.thread_run.specs.Starting.{HasTwo, IsDealt, IsNewClient, crews_from, drivers_from, pass_with, rows_in, worker_with, workers_from};
+ghost use Rattle.thread_run.specs.Starting.{HasTwo, IsDealt, IsNewClient, drivers_from, pass_with, rows_in, worker_with, workers_from};
 ghost use Rattle.thread_run.specs.Steps.{IsCounted};
-ghost use Rattle.thread_run.specs.declared.crew.Crew.TheVariants.{Replica, Client};
 
-use crate::crew::Crew;
 use crate::driver::Driver;
 use crate::replica::Worker;
 use crate::runs::Run;
@@ -71,11 +69,12 @@ pub(crate) fn start<S: Sealer>(
         passes,
     } = open_boxes(alloc, n)?;
     let sends = sends_of(alloc, n, passes)?;
-    let crews = crews_of(alloc, seats, own, takes, sends, clients)?;
+    let workers = workers_of(alloc, seats, own, takes, sends)?;
     Ok(Run {
         alloc,
         world: World { logs, boxes },
-        crews,
+        workers,
+        clients,
         drivers,
         due,
         turns: 0,
@@ -239,57 +238,35 @@ fn first_of_each(alloc: Global, passes: &mut Vec<Vec<SendPass>>) -> Result<Vec<S
     Ok(first)
 }
 
-/// The workers of the replicas, followed by those of the clients.
-fn crews_of<S: Sealer>(
-    alloc: Global,
-    seats: Vec<Seat<S>>,
-    own: Vec<LogPass>,
-    takes: Vec<TakePass>,
-    sends: Vec<Vec<SendPass>>,
-    clients: Vec<Client>,
-) -> Result<Vec<Crew<S>>, NoMemory>
-    requires few { length seats.items ≤ 16 }
-    requires own { length own.items ≡ length seats.items }
-    requires takes { length takes.items ≡ length seats.items }
-    requires sends { length sends.items ≡ length seats.items }
-    ensures { IfOk result (λ crews. crews.items ≡ crews_from (workers_from 0 seats.items own.items takes.items (rows_in sends.items)) clients.items) }
-{
-    let mut crews = replicas_of(alloc, seats, own, takes, sends)?;
-    for client in clients {
-        crews.push(Crew::Client(client))?;
-    }
-    Ok(crews)
-}
-
 /// The workers of the replicas.
-fn replicas_of<S: Sealer>(
+fn workers_of<S: Sealer>(
     alloc: Global,
     seats: Vec<Seat<S>>,
     own: Vec<LogPass>,
     takes: Vec<TakePass>,
     sends: Vec<Vec<SendPass>>,
-) -> Result<Vec<Crew<S>>, NoMemory>
+) -> Result<Vec<Worker<S>>, NoMemory>
     requires few { length seats.items ≤ 16 }
     requires own { length own.items ≡ length seats.items }
     requires takes { length takes.items ≡ length seats.items }
     requires sends { length sends.items ≡ length seats.items }
-    ensures { IfOk result (λ crews. crews.items ≡ map Replica (workers_from 0 seats.items own.items takes.items (rows_in sends.items))) }
+    ensures { IfOk result (λ workers. workers.items ≡ workers_from 0 seats.items own.items takes.items (rows_in sends.items)) }
 {
     let mut seats = seats;
     let mut own = own;
     let mut takes = takes;
     let mut sends = sends;
-    let mut crews = Vec::new(alloc);
+    let mut workers = Vec::new(alloc);
     let mut at = 0;
     'left: while !seats.is_empty() {
         let seat = seats.remove(0);
         let log = own.remove(0);
         let take = takes.remove(0);
         let row = sends.remove(0);
-        crews.push(Crew::Replica(new_worker(alloc, at, seat, log, take, row)))?;
+        workers.push(new_worker(alloc, at, seat, log, take, row))?;
         at += 1;
     }
-    Ok(crews)
+    Ok(workers)
 }
 
 /// A worker that has done nothing.

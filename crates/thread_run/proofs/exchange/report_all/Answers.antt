@@ -3,17 +3,19 @@ use Rattle.std.proofs.lemmas.List.{length-set}
 use Rattle.std.proofs.lemmas.Option.{get_or_from_slice_get, slice_get-get_or}
 use Rattle.client_logs.proofs.OneTransaction.{the_one}
 use Rattle.locked_log.specs.History.{IsPassOf}
-use Rattle.thread_run.specs.Exchange.{DriverHears, Hears, IsDriverOf, ReportedAt}
+use Rattle.thread_run.specs.Exchange.{DriverHears, IsDriverOf, ReportedAt, ReportedWorker}
 use Rattle.thread_run.specs.declared.driver.Driver.{Driver}
 use Rattle.thread_run.proofs.DriverLog.{own_heard}
-use Rattle.thread_run.proofs.LogNews.{all_hear_on, all_hear_self, drivers_on, drivers_self, heard_more, seated_on, reported_more}
+use Rattle.thread_run.proofs.LogNews.{clients_hear, clients_self, drivers_on, drivers_self, heard_more, reported_more, seated_on, workers_hear, workers_self}
 use Rattle.client_logs.proofs.Zips.{zip_at, zip_length, zip_set}
 use Rattle.thread_run.proofs.exchange.report_all.Goals as goal
 
 pub loop-k-init : goal.loop-k-init
 loop-k-init g c = record {
   ready = c.requires.ready;
-  hears = all_hear_self c.args.crews.now;
+  of = c.requires.of;
+  hears = workers_self c.args.workers.now;
+  clients = clients_self c.args.clients.now;
   drivers = drivers_self c.args.drivers.now.items;
   own = c.requires.drivers;
   seats = c.requires.seats;
@@ -62,7 +64,7 @@ loop-k-preserved g c =
     let z = zip_length IsDriverOf _ _ i.own in
     let first = c.args.drivers.now.items in
     let drivers = c.loop-k.drivers.items in
-    let crews = c.loop-k.crews in
+    let workers = c.loop-k.workers in
     let logs = c.args.world.now.logs.items in
     let k = c.loop-k.k in
     let r : Driver = c.index_mut.result.now in
@@ -71,19 +73,21 @@ loop-k-preserved g c =
     let log = the_one logs k (omega (arith, lt, z)) in
     let hears : DriverHears r reported = record { looked = e.heard; feed = refl; fault = refl } in
     let here : DriverHears (get_or drivers k r) reported = subst (λ (d : Driver). DriverHears d reported) c.index_mut.ensures.value hears in
-    let lens = zip_length Hears _ _ e.hears in
+    let lens = zip_length ReportedWorker _ _ e.hears in
     let len = i.len in
     let p = c.requires.places in
-    let within : k < length c.report_log.new.crews = omega (arith, lt, z, lens, len, p) in record {
+    let within : k < length c.report_log.new.workers = omega (arith, lt, z, lens, len, p) in record {
       ready = e.ready;
-      hears = all_hear_on c.args.crews.now crews c.report_log.new.crews i.hears e.hears;
+      of = e.of;
+      hears = workers_hear c.args.workers.now workers c.report_log.new.workers i.hears e.hears;
+      clients = clients_hear c.args.clients.now c.loop-k.clients c.report_log.new.clients i.clients e.clients;
       drivers = drivers_on first drivers k r reported i.drivers here;
       own = zip_set IsDriverOf logs drivers k log reported i.own (own_heard (get_or logs k log) (get_or drivers k r) reported here (zip_at IsDriverOf logs drivers k log r i.own lt));
-      seats = seated_on crews c.report_log.new.crews e.hears i.seats;
-      reported = reported_more first drivers crews c.report_log.new.crews k i.drivers e.hears lt within i.reported
+      seats = seated_on workers c.report_log.new.workers e.hears i.seats;
+      reported = reported_more first drivers c.loop-k.clients c.report_log.new.clients workers c.report_log.new.workers k i.drivers e.clients e.hears lt within i.reported
           (λ d. (let same : get_or drivers k d ≡ r = get_or_from_slice_get drivers k (get_or drivers k r) d (slice_get-get_or drivers k r lt) ∙ sym c.index_mut.ensures.value in
-          subst (λ (x : Driver). ReportedAt k x.pass.seen c.report_log.new.crews) (sym same) e.reported));
-      heard = heard_more c.args.crews.now crews drivers k reported i.hears lt i.heard e.back;
+          subst (λ (x : Driver). ReportedAt k x.pass.seen c.report_log.new.workers c.report_log.new.clients) (sym same) e.reported));
+      heard = heard_more c.args.workers.now workers drivers k reported i.hears lt i.heard e.back;
       len = sym lens ∙ i.len;
       count = i.count ∙ sym (length-set drivers k reported);
     }

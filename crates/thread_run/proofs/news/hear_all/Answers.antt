@@ -1,6 +1,6 @@
 use Rattle.std.proofs.Common.{arith, refl, subst, sym}
 use Rattle.std.specs.Prelude.{All}
-use Rattle.thread_run.specs.Crews.{Ready}
+use Rattle.thread_run.specs.Workers.{Ready}
 use Rattle.thread_run.specs.News.{informed}
 use Rattle.thread_run.proofs.ListUpdates.{changed_whole}
 use Rattle.thread_run.proofs.MailNews.{informed_more, ready_changed}
@@ -13,18 +13,18 @@ pub hear_at-requires-clause-ready : goal.hear_at-requires-clause-ready
 hear_at-requires-clause-ready g c κs within =
     let logs = c.args.world.now.logs.items in
     let boxes = c.args.world.now.boxes.items in
-    subst (All (Ready logs boxes)) (sym c.loop-at.invariant) (ready_changed logs boxes c.args.crews.now c.loop-at.at c.args.crews.now c.requires.ready)
+    subst (All (Ready logs boxes)) (sym c.loop-at.invariant) (ready_changed logs boxes c.args.workers.now c.loop-at.at c.args.workers.now c.requires.ready)
 
 pub loop-at-preserved : goal.loop-at-preserved
 loop-at-preserved g c =
     let test = c.loop-at-test.true in
-    let len = c.loop-at.auto.crews in
-    informed_more c.args.crews.now c.loop-at.crews c.hear_at.new.crews c.loop-at.at (omega (arith, test, len)) c.loop-at.invariant c.hear_at.ensures.heard
+    let len = c.loop-at.auto.workers in
+    informed_more c.args.workers.now c.loop-at.workers c.hear_at.new.workers c.loop-at.at (omega (arith, test, len)) c.loop-at.invariant c.hear_at.ensures.heard
 
 pub returns : goal.returns
 returns g c =
     let last = c.loop-at-test.false in
     let end = c.loop-at.auto.at-end in
-    let len = c.loop-at.auto.crews in record {
-      heard = changed_whole (informed c.args.crews.now) c.loop-at.at c.loop-at.crews c.args.crews.now (omega (arith, last, end, len)) c.loop-at.invariant;
+    let len = c.loop-at.auto.workers in record {
+      heard = changed_whole (informed c.args.workers.now) c.loop-at.at c.loop-at.workers c.args.workers.now (omega (arith, last, end, len)) c.loop-at.invariant;
     }

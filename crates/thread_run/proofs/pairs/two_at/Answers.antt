@@ -5,9 +5,9 @@ use Rattle.thread_run.proofs.pairs.two_at.Goals as goal
 
 pub returns-then-receiver-sender-clause-same : goal.returns-then-receiver-sender-clause-same
 returns-then-receiver-sender-clause-same g c =
-    let crews = c.args.crews.now in
-    ap (slice_set crews c.args.receiver) c.one_is_whole.ensures.same ∙ same_set crews c.args.receiver c.index-crews-receiver.result
+    let workers = c.args.workers.now in
+    ap (slice_set workers c.args.receiver) c.own_is_whole.ensures.same ∙ same_set workers c.args.receiver c.index-workers-receiver.result
 
 pub returns-then-receiver-sender-clause-answers : goal.returns-then-receiver-sender-clause-answers
 returns-then-receiver-sender-clause-answers g c =
-    with_itself c.args.crews.now c.args.receiver c.args.sender c.index-crews-receiver.result c.one_is_whole.result c.if-receiver-sender.true c.requires.places.0 c.one_is_whole.ensures.answers
+    with_itself c.args.workers.now c.args.receiver c.args.sender c.index-workers-receiver.result c.own_is_whole.result c.if-receiver-sender.true c.requires.places.0 c.own_is_whole.ensures.answers

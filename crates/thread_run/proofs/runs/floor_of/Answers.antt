@@ -10,9 +10,9 @@ fold_more : {A X : Type 0} (f : A → X → A) (a : A) (xs : List X) (k : ℕ) (
 fold_more {A = A} f a xs k x b c lt is so one =
     one ∙ ap (λ (z : A). f z x) so ∙ ap (f (fold f a (take k xs))) is ∙ sym (fold-append f a (take k xs) (get_or xs k x ∷ [])) ∙ ap (fold f a) (sym (take_more xs k x lt))
 
-pub loop-crew-preserved : goal.loop-crew-preserved
-loop-crew-preserved g c =
-    fold_more (floor_by c.args.plan.now.faulty) 0 c.args.crews.now c.loop-crew.crew-index c.crew-item.result c.loop-crew.floor c.floor_by-floor.result c.loop-crew-test.true c.crew-item.is c.loop-crew.invariant c.floor_by-floor.ensures
+pub loop-worker-preserved : goal.loop-worker-preserved
+loop-worker-preserved g c =
+    fold_more (floor_by c.args.plan.now.faulty) 0 c.args.workers.now c.loop-worker.worker-index c.worker-item.result c.loop-worker.floor c.floor_by-floor.result c.loop-worker-test.true c.worker-item.is c.loop-worker.invariant c.floor_by-floor.ensures
 
 pub returns : goal.returns
-returns g c = c.loop-crew.invariant ∙ ap (fold (floor_by c.args.plan.now.faulty) 0) (take_all c.loop-crew.crew-index c.args.crews.now c.loop-crew-test.false)
+returns g c = c.loop-worker.invariant ∙ ap (fold (floor_by c.args.plan.now.faulty) 0) (take_all c.loop-worker.worker-index c.args.workers.now c.loop-worker-test.false)

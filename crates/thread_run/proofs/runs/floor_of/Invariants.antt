@@ -3,5 +3,5 @@ use Rattle.std.specs.List.{fold}
 use Rattle.thread_run.specs.Steps.{floor_by}
 use Rattle.thread_run.proofs.runs.floor_of.Given as goal
 
-abbrev pub invariant-loop-crew : goal.invariant-loop-crew
-invariant-loop-crew g l = l.floor ≡ fold (floor_by l.plan.faulty) 0 (take l.crew-index l.crews)
+abbrev pub invariant-loop-worker : goal.invariant-loop-worker
+invariant-loop-worker g l = l.floor ≡ fold (floor_by l.plan.faulty) 0 (take l.worker-index l.workers)

@@ -25,7 +25,7 @@ returns-clause-ran g c =
     let signers = map (λ s. signer (g.S.Sealer.replica s) (g.S.Sealer.capacity s) (g.S.Sealer.gives s) (g.S.Sealer.made s)) c.args.sealers.items in
     let laws : RoundLaws = record { ticks = c.rounds_are_what_a_record_says.ensures.ticks; fed = c.rounds_are_what_a_record_says.ensures.fed } in
     if_both (λ (run : RunRecord). Shows plan new run)
-    (λ (run : RunRecord). (fits : Check) (gives : ℕ → Gives) (capacity : ℕ) → AllStand fits plan m gives capacity new.crews.items → AreShown fits plan gives capacity run (journals_at new.crews.items))
+    (λ (run : RunRecord). (fits : Check) (gives : ℕ → Gives) (capacity : ℕ) → AllStand fits plan m gives capacity new.workers.items → AreShown fits plan gives capacity run (journals_at new.workers.items))
     (λ (run : RunRecord). (gives : ℕ → Gives) (capacity : ℕ) → signers ≡ fresh_signers plan gives capacity → Ran fits plan gives capacity run)
     c.record_of.result c.record_of.ensures.shows c.record_of.ensures.shown
     (λ run shows shown gives capacity is. (

@@ -1,8 +1,8 @@
 use Rattle.std.proofs.Common.{◌≡◌, ℕ, ◌<◌, Some, true}
 use Rattle.std.specs.Prelude.{slice_get}
-use Rattle.thread_run.specs.declared.crew.Crew.{Crew}
 use Rattle.thread_run.specs.Steps.{holds_by}
+use Rattle.thread_run.specs.Workers.{Working}
 use Rattle.thread_run.proofs.runs.Run.all_hold_due.Given as goal
 
-abbrev pub invariant-loop-crew : goal.invariant-loop-crew
-invariant-loop-crew g l = (at : ℕ) (c : Crew g.row.S.Denot) → at < l.crew-index → slice_get l.self.crews.items at ≡ Some c → holds_by l.plan.faulty l.self.due c ≡ true
+abbrev pub invariant-loop-worker : goal.invariant-loop-worker
+invariant-loop-worker g l = (at : ℕ) (w : Working g.row.S.Denot) → at < l.worker-index → slice_get l.self.workers.items at ≡ Some w → holds_by l.plan.faulty l.self.due w ≡ true

@@ -14,14 +14,14 @@ returns-then-branch g c =
     let self = c.args.self.now in
     let looked = c.all_whole-whole.ensures in
     let same = looked.same ∙ c.as_mut_slice.ensures.value in
-    let ok = self.crews.ok.0 in
+    let ok = self.workers.ok.0 in
     let count = ap length same in
-    let items : (with_items self.crews c.all_whole-whole.new.crews).items ≡ self.crews.items = with_items_is self.crews c.all_whole-whole.new.crews (omega (arith, ok, count)) ∙ same in (
+    let items : (with_items self.workers c.all_whole-whole.new.workers).items ≡ self.workers.items = with_items_is self.workers c.all_whole-whole.new.workers (omega (arith, ok, count)) ∙ same in (
       (refl, items),
       (c.all_whole-whole.result, subst (AllCompared c.all_whole-whole.result) c.as_mut_slice.ensures.value looked.compared),
       elim c.then-branch.branch [
-        | then-branch-via-then-branch w ↦ inl (hold_same c.args.plan.now self (record self { crews = with_items self.crews c.all_whole-whole.new.crews }) refl items
-            (subst (AnswersDone c.args.plan.now (record self { crews = with_items self.crews c.all_whole-whole.new.crews })) w.if-branch.true c.in_ok-all_hold_due.ensures))
+        | then-branch-via-then-branch w ↦ inl (hold_same c.args.plan.now self (record self { workers = with_items self.workers c.all_whole-whole.new.workers }) refl items
+            (subst (AnswersDone c.args.plan.now (record self { workers = with_items self.workers c.all_whole-whole.new.workers })) w.if-branch.true c.in_ok-all_hold_due.ensures))
         | then-branch-via-else-branch+then-self-plan w ↦ (let over = w.if-self-plan.true in inr (inl (grind (arith, nat_tests, over))))
       ],
     )
@@ -31,38 +31,38 @@ returns-then-self-plan-2 g c =
     let self = c.args.self.now in
     let looked = c.all_whole-whole.ensures in
     let same = looked.same ∙ c.as_mut_slice.ensures.value in
-    let ok = self.crews.ok.0 in
+    let ok = self.workers.ok.0 in
     let count = ap length same in
-    let items : (with_items self.crews c.all_whole-whole.new.crews).items ≡ self.crews.items = with_items_is self.crews c.all_whole-whole.new.crews (omega (arith, ok, count)) ∙ same in
+    let items : (with_items self.workers c.all_whole-whole.new.workers).items ≡ self.workers.items = with_items_is self.workers c.all_whole-whole.new.workers (omega (arith, ok, count)) ∙ same in
     let compared = subst (AllCompared c.all_whole-whole.result) c.as_mut_slice.ensures.value looked.compared in
     let whole = c.if-not-whole.false in
     let over = c.if-self-plan-2.true in
-    ((refl, items), (c.all_whole-whole.result, compared), inr (inr (over, subst (λ b. AllCompared b self.crews.items) whole compared)))
+    ((refl, items), (c.all_whole-whole.result, compared), inr (inr (over, subst (λ b. AllCompared b self.workers.items) whole compared)))
 
 pub returns : goal.returns
 returns g c =
     let self = c.args.self.now in
     let looked = c.all_whole-whole.ensures in
     let same = looked.same ∙ c.as_mut_slice.ensures.value in
-    let ok = self.crews.ok.0 in
+    let ok = self.workers.ok.0 in
     let count = ap length same in
-    let items : (with_items self.crews c.all_whole-whole.new.crews).items ≡ self.crews.items = with_items_is self.crews c.all_whole-whole.new.crews (omega (arith, ok, count)) ∙ same in
+    let items : (with_items self.workers c.all_whole-whole.new.workers).items ≡ self.workers.items = with_items_is self.workers c.all_whole-whole.new.workers (omega (arith, ok, count)) ∙ same in
     let compared = subst (AllCompared c.all_whole-whole.result) c.as_mut_slice.ensures.value looked.compared in
     let whole = c.if-not-whole.false in
     let turns = c.if-self-plan.false in
     let ticks = c.if-self-plan-2.false in
-    let lacks = lacks_same c.args.plan.now self (record self { crews = with_items self.crews c.all_whole-whole.new.crews }) refl items
-    (subst (AnswersDone c.args.plan.now (record self { crews = with_items self.crews c.all_whole-whole.new.crews })) c.if-branch.false c.in_ok-all_hold_due.ensures) in
+    let lacks = lacks_same c.args.plan.now self (record self { workers = with_items self.workers c.all_whole-whole.new.workers }) refl items
+    (subst (AnswersDone c.args.plan.now (record self { workers = with_items self.workers c.all_whole-whole.new.workers })) c.if-branch.false c.in_ok-all_hold_due.ensures) in
     let floor = c.floor_of.ensures ∙ ap (fold (floor_by c.args.plan.now.faulty) 0) (c.as_slice.ensures.value ∙ items) in
-    ((refl, items), turns, ticks, subst (λ b. AllCompared b self.crews.items) whole compared, floor, lacks)
+    ((refl, items), turns, ticks, subst (λ b. AllCompared b self.workers.items) whole compared, floor, lacks)
 
 pub returns-then-not-whole : goal.returns-then-not-whole
 returns-then-not-whole g c =
     let self = c.args.self.now in
     let same = c.all_whole-whole.ensures.same ∙ c.as_mut_slice.ensures.value in
-    let ok = self.crews.ok.0 in
+    let ok = self.workers.ok.0 in
     let count = ap length same in
-    let items : (with_items self.crews c.all_whole-whole.new.crews).items ≡ self.crews.items = with_items_is self.crews c.all_whole-whole.new.crews (omega (arith, ok, count)) ∙ same in
-    let lacks = lacks_same c.args.plan.now self (record self { crews = with_items self.crews c.all_whole-whole.new.crews }) refl items
-    (subst (AnswersDone c.args.plan.now (record self { crews = with_items self.crews c.all_whole-whole.new.crews })) c.if-branch.false c.in_ok-all_hold_due.ensures) in
+    let items : (with_items self.workers c.all_whole-whole.new.workers).items ≡ self.workers.items = with_items_is self.workers c.all_whole-whole.new.workers (omega (arith, ok, count)) ∙ same in
+    let lacks = lacks_same c.args.plan.now self (record self { workers = with_items self.workers c.all_whole-whole.new.workers }) refl items
+    (subst (AnswersDone c.args.plan.now (record self { workers = with_items self.workers c.all_whole-whole.new.workers })) c.if-branch.false c.in_ok-all_hold_due.ensures) in
     search rules
