@@ -1,12 +1,14 @@
 //! What a replica receives, and what of it arrives. Stamps and answers were computed by hand.
 use super::bench::Bench;
-use crate::arriving::themis_arrive;
+use super::runs::played;
+use crate::arriving::{themis_arrive, themis_arrive_proposed};
 use crate::received::{themis_clock, themis_held, themis_receipts, themis_standing};
 use crate::receiving::{
     themis_accepted, themis_hear, themis_hear_clock, themis_restore, themis_settle, themis_submit,
 };
 use crate::{BAD_NUMBER, CReceipt, CTx, NONE, OK, SHORT, VACANT};
 use std::alloc::Global;
+use std::test::Fail;
 
 const NEW: u32 = 0;
 
@@ -125,6 +127,21 @@ impl Bench {
             && into[0].number == first
             && into[1].number == last
     }
+
+    fn arrives_proposed(&mut self, count: usize, first: u32, last: u32) -> bool {
+        let mut into = [tx(0); 480];
+        let Bench {
+            alloc,
+            handle,
+            count: size,
+            ..
+        } = self;
+        themis_arrive_proposed(*alloc, handle, &mut into[..479], size) == SHORT
+            && themis_arrive_proposed(*alloc, handle, &mut into, size) == OK
+            && *size == count
+            && into[0].number == first
+            && into[1].number == last
+    }
 }
 
 /// A replica that received two transactions, the second after its clock was moved on.
@@ -170,6 +187,26 @@ fn lets_arrive(alloc: Global) -> bool {
         && themis_accepted(alloc, &mut bench.handle, &[9]) == NONE
 }
 
+/// A replica whose session is closing. It receives (7, 2), then the block that proposes (7, 1), then (7, 3), with the stamps
+/// 1, 2 and 3. What is proposed arrives, and what has a smaller stamp.
+fn closes(alloc: Global) -> Result<bool, Fail> {
+    let mut run = played(alloc)?;
+    let bench = &mut run.bench;
+    let Some(block) = run.messages.get(3) else {
+        return Err(Fail::new("no block"));
+    };
+    Ok(
+        bench.submits(2, NEW)
+            && bench.arrives_proposed(0, 0, 0)
+            && themis_accepted(alloc, &mut bench.handle, block.as_slice()) == OK
+            && bench.submits(3, NEW)
+            && bench.arrives_proposed(2, 2, 1)
+            && bench.stands(1, ARRIVED)
+            && bench.stands(3, WAITING)
+            && bench.arrives_proposed(0, 0, 0),
+    )
+}
+
 fn no_replica_receives(alloc: Global) -> bool {
     let mut bench = Bench::new(alloc);
     let mut txs = [tx(1); 480];
@@ -189,6 +226,7 @@ fn no_replica_receives(alloc: Global) -> bool {
         && themis_settle(alloc, handle, &[tx(1)]) == VACANT
         && themis_accepted(alloc, handle, &[9]) == VACANT
         && themis_arrive(alloc, handle, &mut txs, count, size) == VACANT
+        && themis_arrive_proposed(alloc, handle, &mut txs, count) == VACANT
         && themis_receipts(alloc, handle, 0, &mut receipts, count) == VACANT
         && themis_standing(alloc, handle, &tx(1), number) == VACANT
         && themis_clock(alloc, handle, &mut clock) == VACANT
@@ -203,6 +241,12 @@ fn receipts_are_stamped_and_reported(rt: HostRuntime) {
 #[test]
 fn what_is_received_arrives_and_is_settled(rt: HostRuntime) {
     assert!(rt; lets_arrive(rt.alloc()));
+}
+
+#[test]
+fn what_is_proposed_arrives_at_the_end_of_a_session(rt: HostRuntime) -> Result<(), Fail> {
+    assert!(rt; closes(rt.alloc())?);
+    Ok(())
 }
 
 #[test]

@@ -130,7 +130,7 @@ impl Run {
 }
 
 /// The run after a transaction arrived, and a tick.
-fn played(alloc: Global) -> Result<Run, Fail> {
+pub fn played(alloc: Global) -> Result<Run, Fail> {
     let mut run = begun(alloc)?;
     if run.arrive()? && run.tick()? && run.deliver()? {
         Ok(run)
