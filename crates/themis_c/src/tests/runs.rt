@@ -255,6 +255,22 @@ fn an_event_is_prepared_again_after_another_turn(rt: HostRuntime) -> Result<(), 
     Ok(())
 }
 
+/// Whether a new replica acts on garbage that was prepared twice, which is refused for its form, and logs nothing.
+fn acts_unlogged(alloc: Global) -> Result<bool, Fail> {
+    let mut run = begun(alloc)?;
+    let size = run.log.len();
+    let prepared = run.prepare(&[9]) == OK && run.prepare(&[9]) == OK;
+    let first = run.act()? == OK && run.bench.number == 1;
+    let second = run.act()? == OK && run.bench.number == 1;
+    Ok(prepared && first && second && run.log.len() == size)
+}
+
+#[test]
+fn events_that_change_nothing_wait_in_turn(rt: HostRuntime) -> Result<(), Fail> {
+    assert!(rt; acts_unlogged(rt.alloc())?);
+    Ok(())
+}
+
 /// Whether a new replica tells a block, which would change it, from the vote for it and from garbage, which would not.
 fn foretells(alloc: Global) -> Result<bool, Fail> {
     let other = played(alloc)?;
