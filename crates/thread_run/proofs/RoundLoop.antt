@@ -1,7 +1,7 @@
 -- Round after round, until the replicas stop.
 use Rattle.std.proofs.Common.{◌≡◌, ◌⊎◌, ℕ, ◌+◌, ◌*◌, ◌<◌, ◌≤◌, List, refl, ap, sym, subst, ◌∙◌, inl, inr, arith}
-use Rattle.std.specs.Prelude.{Option, Some, None, Result, Ok, Err, IfOk, OnOk, [], ◌∷◌, true, min, slice_get, sum_by}
-use Rattle.std.specs.List.{AllZip}
+use Rattle.std.specs.Prelude.{Bool, Option, Some, None, Result, Ok, Err, IfOk, OnOk, [], ◌∷◌, true, min, slice_get, sum_by}
+use Rattle.std.specs.List.{AllZip, fold}
 use Rattle.std.proofs.lemmas.List.Sums.{sum_by-cons}
 use Rattle.seq_base.specs.declared.tx.Tx.{Tx}
 use Rattle.client_logs.specs.declared.client.Client.{Client as ClientWorker}
@@ -20,7 +20,7 @@ use Rattle.thread_run.specs.Going.{AllTaken, HasGoneOn, IsGoing, IsManned}
 use Rattle.thread_run.specs.Pairs.{AllCompared}
 use Rattle.thread_run.specs.Rounding.{Begins, Follows, MayGo}
 use Rattle.thread_run.specs.Standing.{AllStand, journals_at}
-use Rattle.thread_run.specs.Steps.{HasHeard, HoldAll, IsCounted, IsDecided, IsOver, IsSame, IsStep, SomeLacks, holds_by, turns_by}
+use Rattle.thread_run.specs.Steps.{HasHeard, HoldAll, IsCounted, IsDecided, IsNext, IsOver, IsSame, IsStep, SomeLacks, floor_by, holds_by, turns_by}
 use Rattle.thread_run.specs.Exchange.{ReportedWorker}
 use Rattle.thread_run.specs.Timely.{IsTimely}
 use Rattle.thread_run.specs.Workers.{Working}
@@ -105,6 +105,28 @@ module _ {S : Type 0} (plan : Plan) where
   decided_counted Ends old new d counted = same_counted old.ticks old new d.0 counted.few_ticks counted
   decided_counted (Goes None) old new d counted = same_counted old.ticks old new d.0 counted.few_ticks counted
   decided_counted (Goes (Some floor)) old new d counted = (let lt = d.2 in same_counted (old.ticks + 1) old new d.0 (omega (arith, lt)) counted)
+
+  -- what was compared, that something is lacking, and how the run then continues
+  module _ (old mid new : Run S) (is : mid ≡ record old { workers = mid.workers }) (items : mid.workers.items ≡ old.workers.items) where
+    unticked : new ≡ mid → IsSame old.ticks old new
+    unticked e = (e ∙ is ∙ ap (λ (r : Run S). record old { workers = r.workers }) (sym e), ap (λ (r : Run S). r.workers.items) e ∙ items)
+
+    ticked : new ≡ record mid { ticks = mid.ticks + 1 } → IsSame (old.ticks + 1) old new
+    ticked e = (
+      e ∙ ap (λ (r : Run S). record r { ticks = r.ticks + 1 }) is ∙ ap (λ (r : Run S). record old { workers = r.workers; ticks = old.ticks + 1 }) (sym e),
+      ap (λ (r : Run S). r.workers.items) e ∙ items,
+    )
+
+    pub decided_next : (next : Next) (whole : Bool) → old.turns < plan.turns → AllCompared whole old.workers.items → SomeLacks plan old → IsNext plan whole next mid new → IsDecided plan next old new
+    decided_next Ends whole turns compared lacks n =
+        let ticks : mid.ticks ≡ old.ticks = ap (λ (r : Run S). r.ticks) is in
+        let over : plan.ticks ≤ mid.ticks = n.2 in
+        (unticked n.0, (whole, compared), inr (inr (omega (arith, ticks, over), subst (λ b. AllCompared b old.workers.items) n.1 compared)))
+    decided_next (Goes None) whole turns compared lacks n = (unticked n.0, turns, subst (λ b. AllCompared b old.workers.items) n.1 compared, lacks)
+    decided_next (Goes (Some floor)) whole turns compared lacks n =
+        let ticks : mid.ticks ≡ old.ticks = ap (λ (r : Run S). r.ticks) is in
+        let few : mid.ticks < plan.ticks = n.2 in
+        (ticked n.0, turns, omega (arith, ticks, few), subst (λ b. AllCompared b old.workers.items) n.1 compared, n.3 ∙ ap (fold (floor_by plan.faulty) 0) items, lacks)
 
 -- ---- how a run continues
 

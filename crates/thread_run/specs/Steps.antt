@@ -133,13 +133,21 @@ AnswersDone plan run false = SomeLacks plan run
 abbrev pub IsSame : {S : Type 0} → ℕ → Run S → Run S → Type 0
 IsSame ticks old new = (new ≡ record old { workers = new.workers; ticks = ticks }) × (new.workers.items ≡ old.workers.items)
 
+-- How a run continues where a due transaction is lacking and turns are left, by whether everything that was sent was
+-- received. A round without a tick comes only while something is in flight, a tick only after all was received.
+abbrev pub IsNext : {S : Type 0} → Plan → Bool → Next → Run S → Run S → Type 0
+IsNext plan whole Ends old new = (new ≡ old) × (whole ≡ true) × (plan.ticks ≤ old.ticks)
+IsNext plan whole (Goes None) old new = (new ≡ old) × (whole ≡ false)
+IsNext plan whole (Goes (Some floor)) old new = (new ≡ record old { ticks = old.ticks + 1 }) × (whole ≡ true) × (old.ticks < plan.ticks)
+    × (floor ≡ fold (floor_by plan.faulty) 0 old.workers.items)
+
 -- How a run continues. It ends where everything due is held, or the turns are used up, or the ticks are used up and
--- everything that was sent was received. Otherwise a due transaction is lacking. A tick comes only where everything
--- that was sent was received, with the greatest view of the honest replicas.
+-- everything that was sent was received. Otherwise a due transaction is lacking. A tick comes exactly where everything
+-- that was sent was received, with the greatest view of the honest replicas: without one, something is in flight.
 abbrev pub IsDecided : {S : Type 0} → Plan → Next → Run S → Run S → Type 0
 IsDecided plan Ends old new = IsSame old.ticks old new × ((whole : Bool) × AllCompared whole old.workers.items)
     × (HoldAll plan old ⊎ ((plan.turns ≤ old.turns) ⊎ ((plan.ticks ≤ old.ticks) × AllCompared true old.workers.items)))
-IsDecided plan (Goes None) old new = IsSame old.ticks old new × (old.turns < plan.turns) × SomeLacks plan old
+IsDecided plan (Goes None) old new = IsSame old.ticks old new × (old.turns < plan.turns) × AllCompared false old.workers.items × SomeLacks plan old
 IsDecided plan (Goes (Some floor)) old new = IsSame (old.ticks + 1) old new × (old.turns < plan.turns) × (old.ticks < plan.ticks)
     × AllCompared true old.workers.items × (floor ≡ fold (floor_by plan.faulty) 0 old.workers.items) × SomeLacks plan old
 

@@ -14,7 +14,7 @@ ghost use Rattle.thread_run.specs.Concluding.{Completes, HasEnded, WentOn};
 ghost use Rattle.thread_run.specs.Going.{HasStopped, IsManned};
 ghost use Rattle.thread_run.specs.Rounding.{Follows};
 ghost use Rattle.thread_run.specs.Signers.{fresh_signers};
-ghost use Rattle.thread_run.specs.Steps.{AnswersDone, AreCounted, HasFew, HasHeard, HasSubmitted, IsCounted, IsDecided, IsStep, floor_by, holds_by, most_in, HasReported};
+ghost use Rattle.thread_run.specs.Steps.{AnswersDone, AreCounted, HasFew, HasHeard, HasSubmitted, IsCounted, IsDecided, IsNext, IsStep, floor_by, holds_by, most_in, HasReported};
 ghost use Rattle.thread_run.specs.declared.runs.Next.TheVariants.{Ends, Goes};
 
 use crate::driver::Driver;
@@ -209,14 +209,22 @@ impl<S: Sealer> Run<S> {
         if self.all_hold_due(plan)? || self.turns >= plan.turns {
             return Ok(Next::Ends);
         }
+        Ok(self.next_round(plan, whole))
+    }
+
+    /// How a run continues where something is lacking: it waits for what is in flight, makes a tick once all was received,
+    /// and ends once the ticks are used up.
+    fn next_round(&mut self, plan: &Plan, whole: bool) -> Next
+        ensures { IsNext plan.now whole result self.old self.new }
+    {
         if !whole {
-            return Ok(Next::Goes(None));
+            return Next::Goes(None);
         }
         if self.ticks >= plan.ticks {
-            return Ok(Next::Ends);
+            return Next::Ends;
         }
         self.ticks += 1;
-        Ok(Next::Goes(Some(floor_of(plan, self.workers.as_slice()))))
+        Next::Goes(Some(floor_of(plan, self.workers.as_slice())))
     }
 
     /// Whether each honest replica's batches hold every due transaction.
