@@ -2,17 +2,21 @@
 
 The core needs the replica's secret to seal again what it sealed. So a replica's account is made
 where its secret lies, and only after its session: a key is never used by two running replicas.
+`themisd account` makes it there, without the secret in it; an auditor puts it into the session's
+folder as REPLICA.account.
 """
 
 from __future__ import annotations
 
 import hashlib
+import json
 from collections.abc import Iterator, Sequence
 from dataclasses import dataclass, field
+from typing import Any
 
 from service import core, log, wire
 from service.config import Setup
-from service.core import Arrived, Core, Delivered, Event, Role, Tx
+from service.core import Arrived, Core, Delivered, Event, Role, Tx, tx_of_text
 from service.status import Exit, ServiceError
 from service.wire import Message
 
@@ -47,10 +51,14 @@ class Account:
 
 
 def account_of(setup: Setup, is_faulty: bool = False) -> Account:
-    """Plays a replica's log again. A torn last record is left out. A faulty replica's log proves
-    nothing, so where it can't be played, its account is empty."""
+    """Plays a replica's log again; where its secret is not here, its account is read that its
+    operator made. A torn last record is left out. A faulty replica's log proves nothing, so where
+    it can't be played, its account is empty."""
     path = setup.log_path()
     try:
+        if not setup.secret_path().exists():
+            path = setup.account_path()
+            return read(setup, path.read_text(encoding="ascii"))
         keys = setup.cluster.public_keys()
         return play(setup.role(), setup.secret(), keys, path.read_bytes())
     except (OSError, core.ThemisError, ServiceError) as fault:
@@ -75,12 +83,37 @@ def play(role: Role, secret: bytes, keys: Sequence[bytes], data: bytes) -> Accou
     return account
 
 
+def read(setup: Setup, text: str) -> Account:
+    """The account that `themisd account` printed; ServiceError where it is none of this replica and
+    session, or not the whole one."""
+    account = Account(setup.me)
+    try:
+        first, *events, last = map(json.loads, text.splitlines())
+        if first != {"replica": setup.me, "session": setup.cluster.digest().hex()}:
+            raise ValueError("it is another replica's, or of another session")
+        for it in events:
+            _read_turn(account, it)
+        account.view, account.commit = int(last["view"]), int(last["commit"])
+        account.batches = [[tx_of_text(tx) for tx in it.split()] for it in last["batches"]]
+    except (ValueError, KeyError, TypeError, IndexError) as fault:
+        raise ServiceError(Exit.LOG_REFUSED, f"no whole account: {fault}") from fault
+    return account
+
+
+def _read_turn(account: Account, line: dict[str, Any]) -> None:
+    event, sealed = core.event_of(bytes.fromhex(line["event"])), map(bytes.fromhex, line["sealed"])
+    _note(account, event, int(line["reason"]), list(sealed))
+
+
 def _turn(fresh: Core, account: Account, event: Event) -> None:
     fresh.prepare(event)
-    reason = fresh.act()
+    _note(account, event, fresh.act(), fresh.sealed())
+
+
+def _note(account: Account, event: Event, reason: int, sealed: list[bytes]) -> None:
+    """Adds a turn."""
     if isinstance(event, Arrived):
         account.arrivals += event.txs
-    sealed = fresh.sealed()
     account.statements += sealed
     account.entries.append(Entry(event, reason, len(account.arrivals), sealed))
 

@@ -31,10 +31,10 @@ from subprocess import Popen
 from typing import Any
 
 from service import log
-from service.client import Client, Load, ask
+from service.client import Client, Load
 from service.config import Setup
 from service.core import Core
-from service.folder import client_ports, setups
+from service.folder import replica_ports, setups
 from service.making import Plan, make
 from service.processes import WITH_PARENT, start, statuses, wait_up
 
@@ -67,7 +67,7 @@ class Bench:
     def __init__(self, folder: Path, up: Iterable[int] = range(N), **more: Any) -> None:
         shutil.rmtree(folder, ignore_errors=True)
         self.session = make(folder, Plan(more={"allow_faults": True} | more))
-        self.ports = client_ports(self.session)
+        self.ports = replica_ports(self.session)
         self.commits: dict[int, int] = {}       # of replicas that were killed
         self.processes: dict[int, Popen[bytes]] = {
             i: start(self.session, i, WITH_PARENT) for i in up
@@ -115,12 +115,12 @@ class Bench:
 
     def order(self, replicas: Iterable[int], what: str) -> None:
         for i in replicas:
-            asyncio.run(ask(self.ports[i], f"fault {what}"))
+            asyncio.run(self.ports[i].order(f"fault {what}"))
 
     def load(self, count: int, rate: float, wait: float = 120.0, jitter: float = 0.02) -> str:
         """Runs one client to its end: what it saw, and what the replicas used for it."""
         before, used = self.status(), self.usage()
-        number = random.randrange(1 << 31)
+        number = random.randrange(1, 1 << 31)
         txs = [f"{number}.{k}.0" for k in range(count)]
         client = Client(self.ports, 1, Load(txs, rate, jitter))
         asyncio.run(client.run(wait))

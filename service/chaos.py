@@ -37,13 +37,13 @@ from subprocess import Popen, TimeoutExpired
 
 from service.account import Account
 from service.audit import Report, accounts_of, audit, is_promised, proposals
-from service.client import Client, Load, ask
+from service.client import Client, Load
 from service.config import Cluster
 from service.core import tx_text
 from service.deeds import FRONT_CLIENT, NAMES
 from service.ending import settle
 from service.faults import stop_with_parent
-from service.folder import client_ports, setups
+from service.folder import replica_ports, setups
 from service.forgetting import earlier_accounts, forget, reuse_of
 from service.making import Plan, held_ports, make, ports_of
 from service.processes import START_WITHIN, WITH_PARENT, is_up, last_line, start, wait_up
@@ -96,7 +96,7 @@ class Run:
         )
         shutil.rmtree(folder, ignore_errors=True)
         self.session = make(folder, plan)
-        self.ports = client_ports(self.session)
+        self.ports = replica_ports(self.session)
         self.processes: dict[int, Popen[bytes]] = {}
         self.faults: Counter[str] = Counter()
         self.host_faults: list[str] = []
@@ -195,7 +195,7 @@ class Run:
         return fault if ended is not None else "kill"
 
     async def order(self, replica: int, what: str) -> None:
-        await ask(self.ports[replica], f"fault {what}")
+        await self.ports[replica].order(f"fault {what}")
 
     async def _restart(self, replica: int) -> None:
         self.processes[replica].kill()

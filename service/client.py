@@ -6,6 +6,9 @@ Without transactions it prints all final batches from position P on, for --wait 
 
 A batch is final for a client once f+1 replicas have reported it at its position: one of them is
 honest. A client should submit to all replicas, since each orders by what it received itself.
+
+With TLS, each transaction goes over a connection with the certificate of its own client (FOLDER has
+them: `service/identities.py`).
 """
 
 from __future__ import annotations
@@ -21,26 +24,14 @@ from dataclasses import dataclass, field
 from pathlib import Path
 
 from service.core import tx_of_text
-from service.folder import client_ports, current, setups
+from service.folder import current, replica_ports, setups
+from service.identities import FIRST
+from service.ports import Port
 from service.status import Exit, ServiceError
 
-ANSWER_WITHIN = 30.0
-MAX_LINE = 1 << 20
-MAX_SUBMITTED = 1000        # transactions of one line
+MAX_SUBMITTED = 200         # transactions of one line
 RETRY_AFTER = 0.2
-LANES = 8                   # connections to a replica
-Address = tuple[str, int]
-
-
-async def ask(at: Address, line: str) -> str:
-    """The answer of a replica to one line."""
-    async with asyncio.timeout(ANSWER_WITHIN):
-        reader, writer = await asyncio.open_connection(*at, limit=MAX_LINE)
-        try:
-            writer.write(line.encode() + b"\n")
-            return (await reader.readline()).decode().strip()
-        finally:
-            writer.close()
+LANES = 8                   # connections of a client to a replica
 
 
 @dataclass
@@ -80,7 +71,7 @@ class Load:
 class Client:
     """Submits a load, and follows all replicas until it is final."""
 
-    def __init__(self, replicas: list[Address], f: int, load: Load, position: int = 0) -> None:
+    def __init__(self, replicas: list[Port], f: int, load: Load, position: int = 0) -> None:
         self.replicas, self.load = replicas, load
         self.batches = Batches(f + 1, position)
         self.final: list[list[str]] = []
@@ -88,6 +79,7 @@ class Client:
         self.latency: dict[str, float] = {}
         self.answers: Counter[str] = Counter()
         self.is_done = asyncio.Event()
+        self.reader = client_of(load.txs[0]) if load.txs else FIRST     # who follows
 
     async def run(self, wait: float) -> bool:
         """Whether all was final within `wait` seconds."""
@@ -107,20 +99,25 @@ class Client:
         return self.is_done.is_set()
 
     async def _submit(self, replica: int) -> None:
-        """Sends each transaction until the replica has answered `ok`, over several connections:
-        a replica answers a line only once its transactions are durable there."""
+        """Sends each transaction until the replica has answered `ok`, over several connections of
+        its client: a replica answers a line only once its transactions are durable there."""
         jitter = self.load.jitter
-        due = sorted((at + random.uniform(0, jitter), tx) for tx, at in self.start_of.items())
-        queue = deque(due)
+        queues: dict[int, deque[tuple[float, str]]] = {}
+        due = ((at + random.uniform(0, jitter), tx) for tx, at in self.start_of.items())
+        for at, tx in sorted(due):
+            queues.setdefault(client_of(tx), deque()).append((at, tx))
         async with asyncio.TaskGroup() as group:
-            for _ in range(LANES):
-                group.create_task(self._run_lane(replica, queue))
+            for client, queue in queues.items():
+                for _ in range(max(1, LANES // len(queues))):
+                    group.create_task(self._run_lane(replica, client, queue))
 
-    async def _run_lane(self, replica: int, queue: deque[tuple[float, str]]) -> None:
+    async def _run_lane(
+        self, replica: int, client: int, queue: deque[tuple[float, str]],
+    ) -> None:
         """One connection, and the next one where it ends, until nothing is left."""
         while queue:
             try:
-                reader, writer = await asyncio.open_connection(*self.replicas[replica])
+                reader, writer = await self.replicas[replica].open(client)
                 try:
                     while queue:
                         await self._send_due(queue, reader, writer)
@@ -158,9 +155,7 @@ class Client:
         """Hears the batches of one replica, for ever. Where a connection ends, it makes another."""
         while True:
             try:
-                reader, writer = await asyncio.open_connection(
-                    *self.replicas[replica], limit=MAX_LINE
-                )
+                reader, writer = await self.replicas[replica].open(self.reader)
                 try:
                     writer.write(f"follow {self.batches.position}\n".encode())
                     while line := (await reader.readline()).decode():
@@ -197,6 +192,11 @@ class Client:
             f" {statistics.median(times) * 1000:.0f} ms, p99"
             f" {times[int(len(times) * 0.99)] * 1000:.0f} ms; answers {dict(self.answers)}"
         )
+
+
+def client_of(tx: str) -> int:
+    """The client's number in a transaction."""
+    return int(tx.split(".")[0])
 
 
 def arguments() -> argparse.Namespace:
@@ -239,7 +239,7 @@ def main() -> int:
 def perform(given: argparse.Namespace) -> int:
     load = Load(transactions(given), given.rate, given.jitter)
     session = current(given.folder.resolve())
-    client = Client(client_ports(session), setups(session)[0].cluster.f, load, given.position)
+    client = Client(replica_ports(session), setups(session)[0].cluster.f, load, given.position)
     is_done = asyncio.run(client.run(given.wait))
     for position, txs in enumerate(client.final, given.position):
         if not load.txs or set(txs) & set(load.txs):

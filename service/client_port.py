@@ -2,24 +2,21 @@
 
     submit TX ..        ok NEW OLD, once they are durable here; or busy, closed, over, bad CAUSE
     follow POSITION     batch POSITION TX .., for each final batch from this position on, for ever
-    status              one line of JSON
-    close               takes no more transactions; answers ok
 
-A transaction is client.number.payload.
+A transaction is client.number.payload. With TLS, its client is the one whose certificate the
+connection shows.
 """
 
 from __future__ import annotations
 
 import asyncio
-import json
 import logging
 import socket
-import time
 from collections.abc import Coroutine
 from typing import TYPE_CHECKING, Any
 
 from service.core import tx_of_text, tx_text
-from service.faults import order
+from service.tls import client_of
 
 if TYPE_CHECKING:
     from service.replica import Replica
@@ -89,25 +86,24 @@ class ClientPort:
     ) -> None:
         match words:
             case ["submit", *texts]:
-                new, old = await self._submit(texts, reader)
+                new, old = await self._submit(texts, client_of(writer), reader)
                 writer.write(f"ok {new} {old}\n".encode())
             case ["follow", position] if position.isdigit():
                 await until_closed(self._follow(int(position), writer), reader)
-            case ["status"]:
-                writer.write(json.dumps(self.status()).encode() + b"\n")
-            case ["close"]:
-                self.replica.is_closing = True
-                writer.write(b"ok\n")
-            case ["fault", *what] if self.replica.setup.config.allow_faults:
-                order(self.replica, what)
-                writer.write(b"ok\n")
             case _:
                 raise ValueError("no such command")
 
-    async def _submit(self, texts: list[str], reader: asyncio.StreamReader) -> tuple[int, int]:
+    async def _submit(
+        self, texts: list[str], who: int | None, reader: asyncio.StreamReader,
+    ) -> tuple[int, int]:
         """Admits transactions, and waits until they are durable: how many were new, and not."""
         replica = self.replica
         txs = [tx_of_text(text) for text in texts]
+        for tx in txs:
+            if who == 0:
+                raise ValueError("your certificate is not a client's")
+            if who is not None and tx.client != who:
+                raise ValueError(f"not your transaction: {tx_text(tx)}, you are {who}")
         if replica.is_closing:
             raise Refused("closed")
         if replica.is_over():
@@ -130,22 +126,6 @@ class ClientPort:
             await self._flush(writer)
             async with replica.has_batches:
                 await replica.has_batches.wait_for(lambda: len(replica.batches) > at)
-
-    def status(self) -> dict[str, object]:
-        """Where the replica stands, and what it counted since its start."""
-        replica, intake, core = self.replica, self.replica.intake, self.replica.core
-        now = time.monotonic()
-        return {
-            "replica": replica.me, "session": replica.setup.cluster.session,
-            "view": replica.view, "views": replica.setup.cluster.views, "commit": replica.commit,
-            "batches": len(replica.batches), "digest": replica.digest.hex(),
-            "arrived": core.known(), "final": replica.final,
-            "pending": intake.pending, "queued": core.held().all, "given": intake.given,
-            "heard": replica.peers.count_heard(now), "log_bytes": replica.log.end,
-            "is_over": replica.is_over(), "is_closing": replica.is_closing,
-            "dropped": sum(link.dropped for link in replica.links.values()),
-            **replica.stats,
-        }
 
 
 def keep_alive(writer: asyncio.StreamWriter) -> None:

@@ -133,6 +133,9 @@ def main() -> int:
     except ServiceError as fault:
         print(f"cluster: {fault}", file=sys.stderr)
         return fault.status
+    except OSError as fault:        # of files, such as a disk that is full
+        print(f"cluster: {fault}", file=sys.stderr)
+        return Exit.DISK
 
 
 if __name__ == "__main__":

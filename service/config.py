@@ -13,6 +13,7 @@ from pathlib import Path
 from typing import Any, TypeVar
 
 from service.core import KEY_BYTES, SECRET_BYTES, Role, Tx, tx_of_text
+from service.files import write_whole
 from service.status import Exit, ServiceError
 
 TRANSPORTS = ("tls", "plain")
@@ -34,12 +35,16 @@ class Cluster:
     publics: list[str]          # public keys, 60 bytes each, in hex
     certificates: list[str]     # a file for each replica, in PEM; empty without TLS
     transport: str = "tls"      # "plain" turns authentication and encryption off
+    client_authority: str = ""  # the certificate that signs those of clients; empty without TLS
 
     def check(self, path: Path) -> None:
         """Raises where the lists do not have an item for each replica."""
         lists = [self.peers, self.clients, self.publics]
         if self.transport == "tls":
             lists.append(self.certificates)
+            if not self.client_authority:
+                raise config_error(path, "client_authority is missing: who signs the certificates"
+                                         " of clients")
         if any(len(it) != self.n for it in lists):
             raise config_error(path, f"each list needs {self.n} items")
         if self.transport not in TRANSPORTS:
@@ -75,10 +80,11 @@ class Config:
     hold: bool = True               # proposals wait while no transaction does
     share_after: float = 0.5        # time after which peers are told of waiting ones again
     max_waiting: int = 16_000       # of clients, that wait; above it clients hear `busy`
+    max_of_client: int = 1000       # of these, of one client; the host in Python has no such bound
     hold_asks: bool = True          # an Ask waits until f+1 replicas are in its view
     fetch_rate: float = 100.0       # blocks a second that a peer may ask for
     fsync: bool = True
-    allow_faults: bool = False      # for tests: the client port takes the command `fault`
+    allow_faults: bool = False      # for tests: the operator may order a `fault`
     log_receipts: bool = False      # for tests: REPLICA.receipts says what was received and heard
     deeds: list[str] = field(default_factory=list)      # for tests: what a faulty replica does
 
@@ -113,9 +119,20 @@ class Setup:
     def log_path(self) -> Path:
         return self.folder / self.config.log
 
+    def account_path(self) -> Path:
+        """What `themisd account` printed, where the secret is not here."""
+        return self.folder / f"{self.me}.account"
+
+    def secret_path(self) -> Path:
+        return self.folder / self.config.secret_file
+
+    def operator_path(self) -> Path:
+        """The operator's socket."""
+        return self.folder / f"{self.me}.sock"
+
     def secret(self) -> bytes:
         """The 48 bytes of the secret file, which others must not be able to read."""
-        path = self.folder / self.config.secret_file
+        path = self.secret_path()
         try:
             if path.stat().st_mode & 0o077:
                 raise config_error(path, "others can read this secret: chmod 600")
@@ -125,7 +142,6 @@ class Setup:
         if len(secret) != SECRET_BYTES:
             raise config_error(path, f"a secret has {SECRET_BYTES} bytes")
         return secret
-
 
     def carried_over(self) -> list[Tx]:
         """What was not final in the session before, in the order in which it arrived here."""
@@ -200,7 +216,7 @@ def toml_of(value: Any) -> str:
 
 def write_toml(path: Path, table: Cluster | Config) -> None:
     lines = [f"{it.name} = {toml_of(getattr(table, it.name))}\n" for it in fields(table)]
-    path.write_text("".join(lines))
+    write_whole(path, "".join(lines))
 
 
 def address(text: str) -> tuple[str, int]:

@@ -17,11 +17,10 @@ from typing import Any
 
 from service.account import Account
 from service.audit import Report, accounts_of, audit, faulty_of
-from service.client import ask
 from service.config import Config, Setup
 from service.core import Tx, tx_text
 from service.files import write_whole
-from service.folder import RESULT, client_ports, sessions, setups
+from service.folder import RESULT, replica_ports, sessions, setups
 from service.making import SETTLED, Plan, make
 from service.processes import running, start_all, statuses, stop_all
 from service.status import Exit, ServiceError
@@ -54,9 +53,9 @@ async def settle(session: Path, wait: float, faulty: Set[int] = frozenset()) -> 
 
 
 async def stop_submission(session: Path) -> None:
-    for at in client_ports(session):
+    for at in replica_ports(session):
         try:
-            await ask(at, "close")
+            await at.order("close")
         except (OSError, TimeoutError):
             pass        # it is down, and admits nothing
 

@@ -52,7 +52,7 @@ def disk_of(config: Config) -> Disk:
 
 
 def order(replica: Replica, words: list[str]) -> None:
-    """Obeys the command `fault` of the client port; ValueError where it is none."""
+    """Obeys the command `fault` of the operator's socket; ValueError where it is none."""
     disk = replica.disk
     assert isinstance(disk, FaultyDisk)
     match words:

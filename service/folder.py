@@ -5,6 +5,8 @@ from __future__ import annotations
 from pathlib import Path
 
 from service.config import Config, Setup, address
+from service.identities import folder_of
+from service.ports import Port
 from service.status import Exit, ServiceError
 
 RESULT = "result.json"      # in the folder of a session that was closed
@@ -24,8 +26,15 @@ def setups(session: Path) -> list[Setup]:
     return [Config.load(session / f"{i}.toml") for i in range(count)]
 
 
-def client_ports(session: Path) -> list[tuple[str, int]]:
-    return [address(it) for it in setups(session)[0].cluster.clients]
+def replica_ports(session: Path) -> list[Port]:
+    """Where clients and operators reach the replicas of a session."""
+    found = setups(session)
+    cluster, clients = found[0].cluster, folder_of(session)
+    certificates = [session / it for it in cluster.certificates] or [None] * cluster.n
+    return [
+        Port(*address(at), setup.operator_path(), certificate, clients)
+        for at, setup, certificate in zip(cluster.clients, found, certificates)
+    ]
 
 
 def current(folder: Path) -> Path:

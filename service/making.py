@@ -16,6 +16,7 @@ from service import core, log
 from service.config import Cluster, Config, Setup, table_of, write_toml
 from service.core import SECRET_BYTES, Core
 from service.files import sync_folder
+from service.identities import give_authority
 from service.status import Exit, ServiceError
 from service.tls import make_certificate
 
@@ -77,6 +78,8 @@ def write_secret(path: Path) -> bytes:
     file = os.open(path, os.O_WRONLY | os.O_CREAT | os.O_EXCL, 0o600)
     with os.fdopen(file, "w") as out:
         out.write(secret.hex())
+        out.flush()
+        os.fsync(out.fileno())
     return secret
 
 
@@ -102,13 +105,16 @@ def make(folder: Path, plan: Plan, session: int = 1) -> Path:
 def fill(at: Path, plan: Plan, session: int) -> None:
     """Writes the files of a session into a new folder."""
     keys = [write_secret(at / f"{i}.secret") for i in range(plan.n)]
-    tls = [make_certificate(at, str(i)) for i in range(plan.n) if plan.transport == "tls"]
+    is_tls = plan.transport == "tls"
+    tls = [make_certificate(at, str(i), [HOST]) for i in range(plan.n) if is_tls]
+    authority = give_authority(at.parent, at) if is_tls else ""
     ports = [f"{HOST}:{port}" for port in plan.ports or free_ports(2 * plan.n)]
     cluster = Cluster(
         session=session, n=plan.n, f=plan.f, p=plan.p, q=plan.q, views=plan.views,
         height=plan.height, peers=ports[:plan.n], clients=ports[plan.n:],
         publics=[core.public_key(plan.height, secret).hex() for secret in keys],
         certificates=[certificate for _, certificate in tls], transport=plan.transport,
+        client_authority=authority,
     )
     write_toml(at / CLUSTER_FILE, cluster)
     for i, secret in enumerate(keys):

@@ -15,20 +15,34 @@ from contextlib import suppress
 from pathlib import Path
 from typing import Any
 
-from service.client import ask
-from service.folder import client_ports, setups
+from service.config import Config, Setup
+from service.files import write_whole
+from service.folder import replica_ports, setups
+from service.ports import Port
 from service.status import Exit, ServiceError
 
 TOP = Path(__file__).resolve().parent.parent
+THEMISD, PYTHON = TOP / "out" / "themisd", "python"
 START_WITHIN = 600.0        # a start plays the whole log again; one that ends is seen at once
 HEARD_WITHIN, STOP_WITHIN = 5.0, 20.0
 WITH_PARENT = "--with-parent"       # for tests: no replica outlives them
 PIDS = "pids.json"
 
 
+def host_words(setup: Setup) -> list[str]:
+    """The command of a replica's host: `themisd` where it was built, else the one in Python.
+    THEMIS_HOST chooses it: the path of a `themisd`, or `python`. The host in Python alone has deeds
+    for a faulty replica."""
+    chosen = os.environ.get("THEMIS_HOST") or (str(THEMISD) if THEMISD.exists() else PYTHON)
+    if chosen == PYTHON or setup.config.deeds:
+        return [sys.executable, "-m", "service.replica"]
+    return [chosen, "run"]
+
+
 def start(session: Path, replica: int, *more: str) -> subprocess.Popen[bytes]:
     """Starts the process of one replica. What it logs is added to REPLICA.out."""
-    words = [sys.executable, "-m", "service.replica", str(session / f"{replica}.toml"), *more]
+    config = session / f"{replica}.toml"
+    words = [*host_words(Config.load(config)), str(config), *more]
     with open(session / f"{replica}.out", "ab") as out:
         return subprocess.Popen(
             words, cwd=TOP, stdout=out, stderr=out, stdin=subprocess.DEVNULL,
@@ -41,9 +55,9 @@ def last_line(session: Path, replica: int) -> str:
     return lines[-1] if lines else ""
 
 
-def is_up(at: tuple[str, int]) -> bool:
+def is_up(at: Port) -> bool:
     try:
-        socket.create_connection(at, 0.5).close()
+        socket.create_connection((at.host, at.port), 0.5).close()
     except OSError:
         return False
     return True
@@ -51,7 +65,7 @@ def is_up(at: tuple[str, int]) -> bool:
 
 def wait_up(session: Path, processes: dict[int, subprocess.Popen[bytes]]) -> None:
     """Waits until the client ports are open; ServiceError where a process ends before."""
-    ports = client_ports(session)
+    ports = replica_ports(session)
     end = time.monotonic() + START_WITHIN
     for i, process in processes.items():
         while not is_up(ports[i]):
@@ -71,9 +85,19 @@ def exit_of(process: subprocess.Popen[bytes]) -> Exit:
 
 def running(session: Path) -> dict[int, int]:
     """The processes that `start` noted and that still run this session, by replica."""
-    path = session / PIDS
-    noted = json.loads(path.read_text()) if path.exists() else {}
-    return {int(i): pid for i, pid in noted.items() if is_ours(session, int(i), pid)}
+    noted = noted_pids(session / PIDS)
+    return {i: pid for i, pid in noted.items() if is_ours(session, i, pid)}
+
+
+def noted_pids(path: Path) -> dict[int, int]:
+    """The processes that a file names, by replica; none where there is no file."""
+    try:
+        return {int(i): int(pid) for i, pid in json.loads(path.read_text()).items()}
+    except FileNotFoundError:
+        return {}
+    except (OSError, ValueError, AttributeError, TypeError) as fault:
+        text = f"{path} can't be read ({fault}): remove it once none of these replicas runs"
+        raise ServiceError(Exit.CONFIG, text) from fault
 
 
 def is_ours(session: Path, replica: int, pid: int) -> bool:
@@ -91,7 +115,7 @@ def start_all(session: Path, *more: str) -> dict[int, subprocess.Popen[bytes]]:
     missing = [setup.me for setup in setups(session) if setup.me not in up]
     processes = {i: start(session, i, *more) for i in missing}
     pids = up | {i: process.pid for i, process in processes.items()}
-    (session / PIDS).write_text(json.dumps(pids))
+    write_whole(session / PIDS, json.dumps(pids))
     wait_up(session, processes)
     wait_heard(session)
     return processes
@@ -124,13 +148,13 @@ def stop_all(session: Path) -> None:
 
 async def statuses(session: Path) -> list[dict[str, Any] | None]:
     """The status of each replica; None of one that does not answer."""
-    async def one(at: tuple[str, int]) -> dict[str, Any] | None:
+    async def one(at: Port) -> dict[str, Any] | None:
         try:
-            answer: dict[str, Any] = json.loads(await ask(at, "status"))
+            answer: dict[str, Any] = json.loads(await at.order("status"))
         except (OSError, TimeoutError, ValueError):
             return None
         return answer
-    return list(await asyncio.gather(*map(one, client_ports(session))))
+    return list(await asyncio.gather(*map(one, replica_ports(session))))
 
 
 def status_lines(found: list[dict[str, Any] | None]) -> Iterator[str]:

@@ -32,11 +32,12 @@ from service.guards import Budget, EarlyAsks, GivenBlocks
 from service.intake import Intake
 from service.link import Link
 from service.pacemaker import Hold, Pace, Pacemaker, Sends, Session, Shown
+from service.operator_port import OperatorPort, listen
 from service.peer_port import MAX_BLOCKS, PeerPort
 from service.peers import Peers
 from service.receipts import ReceiptLog, path_of
 from service.status import Exit, ServiceError
-from service.tls import Trust
+from service.tls import Trust, client_port_context
 from service.turns import Turns
 
 CHECK_EVERY = 0.01
@@ -292,14 +293,20 @@ async def serve(replica: Replica) -> None:
     for name in (signal.SIGTERM, signal.SIGINT):
         asyncio.get_running_loop().add_signal_handler(name, task.cancel)
     cluster = replica.setup.cluster
-    clients = ClientPort(replica)
+    clients, operator = ClientPort(replica), OperatorPort(replica)
+    tls = client_port_context(replica.setup)
     try:
         peers = PeerPort(replica, address(cluster.peers[replica.me]))
         host, port = address(cluster.clients[replica.me])
-        client_port = await asyncio.start_server(clients.serve, host, port, limit=clients.limit)
+        client_port = await asyncio.start_server(
+            clients.serve, host, port, limit=clients.limit, ssl=tls,
+        )
+        operator_port = await asyncio.start_unix_server(
+            operator.serve, sock=listen(replica.setup.operator_path()), limit=operator.limit,
+        )
     except OSError as fault:
         raise ServiceError(Exit.NETWORK, str(fault)) from fault
-    async with client_port, asyncio.TaskGroup() as group:
+    async with client_port, operator_port, asyncio.TaskGroup() as group:
         for work in [peers.listener.run(), *replica.tasks()]:
             group.create_task(work)
 

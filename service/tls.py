@@ -7,31 +7,49 @@ names the replica whose certificate that is. `openssl` makes the certificates.
 from __future__ import annotations
 
 import asyncio
+import os
 import ssl
 import subprocess
+from collections.abc import Sequence
 from pathlib import Path
 
 from service.config import Setup, config_error
+from service.files import sync_file
 from service.status import Exit, ServiceError
 
 DAYS = 3650
 NOBODY = -1
+EC_KEY = ["-newkey", "ec", "-pkeyopt", "ec_paramgen_curve:P-256", "-nodes"]
 
 
-def make_certificate(folder: Path, name: str) -> tuple[str, str]:
-    """Writes NAME.tls.key and NAME.crt with the command `openssl`; returns these names."""
+def make_certificate(
+    folder: Path, name: str, hosts: Sequence[str] = (), is_authority: bool = False,
+) -> tuple[str, str]:
+    """Writes NAME.tls.key and NAME.crt, which signs itself; returns these names. The hosts, in
+    numbers, are for clients that compare names, as `curl` does."""
     key, certificate = f"{name}.tls.key", f"{name}.crt"
-    words = [
-        "openssl", "req", "-x509", "-newkey", "ec", "-pkeyopt", "ec_paramgen_curve:P-256",
-        "-nodes", "-days", str(DAYS), "-subj", f"/CN={name}", "-keyout", key, "-out", certificate,
-    ]
-    try:
-        subprocess.run(words, cwd=folder, check=True, capture_output=True)
-    except (OSError, subprocess.CalledProcessError) as fault:
-        text = f"openssl made no certificate ({fault}); `--plain` goes without TLS"
-        raise ServiceError(Exit.CONFIG, text) from fault
-    (folder / key).chmod(0o600)
+    words = ["req", "-x509", *EC_KEY, "-days", str(DAYS), "-subj", f"/CN={name}"]
+    if hosts:
+        words += ["-addext", "subjectAltName=" + ",".join(f"IP:{it}" for it in hosts)]
+    if is_authority:
+        words += ["-addext", "keyUsage=critical,keyCertSign"]
+    openssl(folder, words, folder / key, folder / certificate)
     return key, certificate
+
+
+def openssl(folder: Path, words: list[str], key: Path, certificate: Path) -> None:
+    """Calls the command `openssl`, which makes a key and a certificate. Both are durable then, and
+    the key is its owner's alone from the beginning."""
+    os.close(os.open(key, os.O_WRONLY | os.O_CREAT, 0o600))
+    try:
+        subprocess.run(["openssl", *words, "-keyout", key, "-out", certificate], cwd=folder,
+                       check=True, capture_output=True)
+    except (OSError, subprocess.CalledProcessError) as fault:
+        cause = fault.stderr.decode() if isinstance(fault, subprocess.CalledProcessError) else fault
+        text = f"openssl made no certificate ({cause}); `--plain` goes without TLS"
+        raise ServiceError(Exit.CONFIG, text) from fault
+    for path in (key, certificate, folder):
+        sync_file(path)
 
 
 class Trust:
@@ -63,6 +81,30 @@ class Trust:
     def is_from(self, writer: asyncio.StreamWriter, peer: int) -> bool:
         """Whether the other side of a connection may call itself that replica."""
         return self.owner(writer) in (None, peer)
+
+
+def client_port_context(setup: Setup) -> ssl.SSLContext | None:
+    """Demands a certificate that the clients' authority has signed. None without TLS."""
+    if setup.cluster.transport != "tls":
+        return None
+    cluster, folder = setup.cluster, setup.folder
+    own = folder / cluster.certificates[setup.me], folder / setup.config.tls_key
+    try:
+        authority = (folder / cluster.client_authority).read_text()
+        return context(ssl.Purpose.CLIENT_AUTH, [authority], own)
+    except (OSError, ValueError) as fault:
+        raise config_error(folder / cluster.client_authority, str(fault)) from fault
+
+
+def client_of(writer: asyncio.StreamWriter) -> int | None:
+    """The number of the client whose certificate a connection shows, 0 where it names none; None
+    without TLS."""
+    tls = writer.get_extra_info("ssl_object")
+    if tls is None:
+        return None
+    subject = [pair for names in tls.getpeercert()["subject"] for pair in names]
+    names = [value for key, value in subject if key == "commonName"]
+    return int(names[0]) if len(names) == 1 and names[0].isdigit() else 0
 
 
 def context(purpose: ssl.Purpose, pems: list[str], own: tuple[Path, Path]) -> ssl.SSLContext:

@@ -14,7 +14,7 @@ DEBIAN = pathlib.Path("/usr/share/cargo/registry")
 OLDEST_CARGO = (1, 82)
 # Crates that the host names, as Debian packages them.
 CRATES = (
-    "bytes", "clap", "libc", "rand", "rand-chacha", "rustls-pemfile", "serde", "serde-json", "sha2",
+    "bytes", "clap", "hyper", "libc", "rand", "rand-chacha", "rustls-pemfile", "serde", "serde-json", "sha2",
     "socket2", "tokio", "tokio-rustls", "toml", "tracing", "tracing-subscriber",
 )
 PACKAGES = [f"librust-{crate}-dev" for crate in CRATES]

@@ -3,7 +3,9 @@
 from __future__ import annotations
 
 import contextlib
+import errno
 import io
+import os
 import shutil
 import tempfile
 import unittest
@@ -12,7 +14,9 @@ from pathlib import Path
 from unittest.mock import patch
 
 from service import client, cluster
+from service.ending import CARRIED
 from service.folder import RESULT, setups
+from service.processes import PIDS
 from service.status import Exit
 from service.tests import why_no_library
 
@@ -81,6 +85,29 @@ class Refusals(unittest.TestCase):
         self.check(cluster.main, Exit.STOPPED, "made", "prepare", self.at)
         (self.folder / "1" / RESULT).touch()
         self.check(cluster.main, Exit.CONFIG, "`cluster next` writes it", "start", self.at)
+
+    def test_a_damaged_list_of_processes(self) -> None:
+        """It was cut off, or something else is in it: nobody knows which replicas run."""
+        self.check(cluster.main, Exit.STOPPED, "made", *MAKE, self.at)
+        for text in ("", "{", "[1]", '{"0": "x"}', '{"x": 1}', '{"0": null}'):
+            (self.folder / "1" / PIDS).write_text(text)
+            for command in ("start", "stop", "close"):
+                self.check(cluster.main, Exit.CONFIG, "pids.json can't be read", command, self.at)
+
+    def test_a_full_disk_at_the_end(self) -> None:
+        """The session is closed by one more `close`, once there is space."""
+        self.check(cluster.main, Exit.STOPPED, "made", *MAKE, self.at)
+        session, closing = self.folder / "1", ["close", self.at, "--stopped"]
+        for name in (CARRIED, RESULT):
+            (session / f"{name}.new").symlink_to("/dev/full")
+            self.check(cluster.main, Exit.DISK, f"{name}: No space left", *closing)
+            self.assertFalse((session / RESULT).exists())
+        self.check(cluster.main, Exit.STOPPED, "verdict yes, 0 batches", *closing)
+
+    def test_a_full_disk_at_the_beginning(self) -> None:
+        with patch("os.fsync", side_effect=OSError(errno.ENOSPC, os.strerror(errno.ENOSPC))):
+            self.check(cluster.main, Exit.DISK, "No space left", *MAKE, self.at)
+        self.assertEqual(list(self.folder.iterdir()), [])
 
     def test_what_is_no_transaction(self) -> None:
         for text in ("1.1", "1.1.1.1", "a.1.1", "1.4294967296.1"):

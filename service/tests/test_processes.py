@@ -16,17 +16,18 @@ from subprocess import Popen
 
 from service import log
 from service.audit import audit_session
-from service.client import Client, Load, ask
+from service.client import Client, Load
 from service.client_port import MAX_CLIENTS
 from service.config import Config, address
 from service.core import Arrived, Event, Tick, Tx
 from service.ending import (
     CARRIED, close_session, close_stopped, prepare_next, settle, start_next,
 )
-from service.folder import RESULT, client_ports, setups
+from service.folder import RESULT, replica_ports, setups
 from service.frames import Kind, frame
 from service.listener import MAX_STRANGERS
 from service.making import Plan, held_ports, make, ports_of
+from service.ports import Port
 from service.processes import WITH_PARENT, start, start_all, statuses, stop_all
 from service.replica import Replica
 from service.status import Exit, ServiceError
@@ -41,20 +42,20 @@ def made_txs(client: int, count: int) -> list[str]:
     return [f"{client}.{number}.7" for number in range(1, count + 1)]
 
 
-async def first_batches(at: tuple[str, int], count: int) -> list[str]:
+async def first_batches(at: Port, count: int) -> list[str]:
     """The first batches that a replica reports."""
     async with asyncio.timeout(LIMIT):
-        reader, writer = await asyncio.open_connection(*at)
+        reader, writer = await at.open()
         writer.write(b"follow 0\n")
         lines = [await reader.readline() for _ in range(count)]
         writer.close()
     return [line.decode().split(maxsplit=2)[2].strip() for line in lines]
 
 
-async def answer_of(at: tuple[str, int], line: str) -> str:
-    """The answer to a line; none where the connection is not taken."""
+async def answer_of(at: Port, line: str) -> str:
+    """The answer to a client's line; none where the connection is not taken."""
     try:
-        return await ask(at, line)
+        return await at.ask(line)
     except OSError:
         return ""
 
@@ -65,7 +66,7 @@ class OneCluster(unittest.TestCase):
 
     folder: Path
     session: Path
-    ports: list[tuple[str, int]]
+    ports: list[Port]
     started: list[Popen[bytes]]         # the last process of each replica
 
     @classmethod
@@ -76,7 +77,7 @@ class OneCluster(unittest.TestCase):
         cls.session = make(cls.folder, replace(SMALL, ports=cls.held_ports()))
         cls.addClassCleanup(cls.stop, cls.session)
         cls.started = list(start_all(cls.session, WITH_PARENT).values())
-        cls.ports = client_ports(cls.session)
+        cls.ports = replica_ports(cls.session)
 
     @classmethod
     def held_ports(cls) -> tuple[int, ...]:
@@ -92,7 +93,7 @@ class OneCluster(unittest.TestCase):
         for process in cls.started:
             process.wait(LIMIT)
 
-    def submit(self, txs: list[str], ports: list[tuple[str, int]] | None = None) -> None:
+    def submit(self, txs: list[str], ports: list[Port] | None = None) -> None:
         client = Client(ports or self.ports, 1, Load(txs, rate=100))
         self.assertTrue(asyncio.run(client.run(LIMIT)), client.summary())
 
@@ -113,7 +114,7 @@ class OneCluster(unittest.TestCase):
 
     def test_2_bad_lines_are_answered(self) -> None:
         for line in ("submit 1.2", "submit 01.2.3", "follow x", "hello", "submit 1.2.1e9"):
-            answer = asyncio.run(ask(self.ports[0], line))
+            answer = asyncio.run(self.ports[0].ask(line))
             self.assertTrue(answer.startswith("bad"), answer)
 
     def test_2_strangers_are_refused(self) -> None:
@@ -128,7 +129,7 @@ class OneCluster(unittest.TestCase):
     def check_refused(self, certificate: list[Path] | None, data: bytes) -> None:
         """Replica 0 closes a connection after these bytes, and goes on."""
         self.assertTrue(asyncio.run(self.is_refused(certificate, data)))
-        self.assertIn('"view"', asyncio.run(ask(self.ports[0], "status")))
+        self.assertIn('"view"', asyncio.run(self.ports[0].order("status")))
 
     async def is_refused(self, certificate: list[Path] | None, data: bytes) -> bool:
         context = ssl.create_default_context()
@@ -165,7 +166,7 @@ class OneCluster(unittest.TestCase):
 
     def test_2_clients_that_left_make_room(self) -> None:
         async def follow_and_leave() -> None:
-            _, writer = await asyncio.open_connection(*self.ports[0])
+            _, writer = await self.ports[0].open()
             writer.write(b"follow 4294967295\n")
             await writer.drain()
             writer.close()
@@ -174,10 +175,10 @@ class OneCluster(unittest.TestCase):
             for _ in range(MAX_CLIENTS + 50):
                 await follow_and_leave()
             async with asyncio.timeout(LIMIT):
-                while not (answer := await answer_of(self.ports[0], "status")):
+                while not (answer := await answer_of(self.ports[0], "hello")):
                     await asyncio.sleep(0.05)
             return answer
-        self.assertIn('"view"', asyncio.run(leave_often()))
+        self.assertIn("no such command", asyncio.run(leave_often()))
 
     def test_2_strangers_that_say_nothing_make_room(self) -> None:
         """More connections than may wait for a handshake, and then one of replica 2."""
@@ -201,12 +202,12 @@ class OneCluster(unittest.TestCase):
 
     def frame_faults(self) -> int:
         """Frames that were none, of peers whose handshake and hello replica 0 took."""
-        return int(json.loads(asyncio.run(ask(self.ports[0], "status"))).get("frame faults", 0))
+        return int(json.loads(asyncio.run(self.ports[0].order("status"))).get("frame faults", 0))
 
     def test_3_a_crash_and_a_full_disk(self) -> None:
         """A replica dies within a write, and one meets a full disk: both recover."""
-        asyncio.run(ask(self.ports[1], "fault tear 30"))
-        asyncio.run(ask(self.ports[2], "fault full"))
+        asyncio.run(self.ports[1].order("fault tear 30"))
+        asyncio.run(self.ports[2].order("fault full"))
         asyncio.run(self.submit_until_ended(made_txs(3, 10), [1, 2]))
         self.assertEqual([self.started[i].returncode for i in (1, 2)],
                          [-signal.SIGKILL, Exit.DISK])
@@ -239,10 +240,10 @@ class OneCluster(unittest.TestCase):
         self.assertEqual(following, prepared)
         self.started += processes.values()
         self.addCleanup(stop_all, following)
-        ports = client_ports(following)
+        ports = replica_ports(following)
         self.submit(["6.1.1"], ports)
         again = made_txs(1, 1)[0]       # final in the session before
-        self.assertEqual(asyncio.run(ask(ports[0], f"submit {again}")), "ok 0 1")
+        self.assertEqual(asyncio.run(ports[0].ask(f"submit {again}")), "ok 0 1")
         self.settle(following, 2)
         batches = asyncio.run(first_batches(ports[0], 2))
         self.assertEqual(sorted(batches), ["5.1.1", "6.1.1"])
@@ -264,7 +265,7 @@ class LostLog(unittest.TestCase):
         for process in processes.values():
             self.addCleanup(process.wait, LIMIT)
         self.addCleanup(stop_all, session)      # the last one added is called first
-        ports = client_ports(session)
+        ports = replica_ports(session)
         first = Client(ports, 1, Load(made_txs(1, 5), rate=100))
         self.assertTrue(asyncio.run(first.run(LIMIT)))
         processes[3].kill()

@@ -19,6 +19,7 @@ use crate::intake::{Intake, Note};
 use crate::pace::ViewPace;
 use crate::pacemaker::Pacemaker;
 use crate::peers::Peers;
+use crate::recent::Blocks;
 use crate::setting::{Options, Place};
 use crate::time::Time;
 use crate::turns::Turns;
@@ -83,6 +84,8 @@ pub enum Output {
     },
     /// So many slots of a peer are free again.
     Freed(u32, u32),
+    /// Transactions that a client or a peer brought first, and that are held here now.
+    Received(Vec<Tx>),
     /// Something was received or heard, where a test wants to know.
     Noted(Note),
 }
@@ -121,6 +124,7 @@ pub struct Engine<C> {
     pub(crate) turns: Turns,
     pub(crate) clients: Clients,
     pub(crate) counters: Counters,
+    pub(crate) blocks: Blocks,
     pub(crate) finals: Finals,
     pub(crate) told: Told,
     pub(crate) commit_at: Time,
@@ -191,6 +195,7 @@ impl<C: Core> Engine<C> {
             turns: Turns::default(),
             clients: Clients::default(),
             counters: Counters::new(place.n),
+            blocks: Blocks::default(),
             finals: Finals::default(),
             told: Told::new(place.n, now),
             commit_at: now,
@@ -232,7 +237,9 @@ impl<C: Core> Engine<C> {
     }
 
     fn restore_block(&mut self, it: &Delivered) -> Result<(), Error> {
-        self.shown.store(wire::block_views(&it.data));
+        let views = wire::block_views(&it.data);
+        self.shown.store(views);
+        views.into_iter().for_each(|it| self.blocks.accepted(it.view));
         self.intake.restore_block(self.core.core.desk(), &it.data)?;
         let block = wire::given_block(&it.data);
         if wire::given_view(&it.data).is_some() && !self.given.is_stored(block) {
@@ -245,6 +252,8 @@ impl<C: Core> Engine<C> {
     pub fn outputs(&mut self) -> Vec<Output> {
         let freed = self.inbox.take_freed().map(|(peer, count)| Output::Freed(peer, count));
         self.outputs.extend(freed);
+        let received = self.intake.take_received();
+        self.outputs.extend((!received.is_empty()).then_some(Output::Received(received)));
         self.outputs.extend(self.intake.take_notes().into_iter().map(Output::Noted));
         std::mem::take(&mut self.outputs)
     }

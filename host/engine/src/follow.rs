@@ -97,6 +97,7 @@ impl<C: Core> Engine<C> {
         }
         let Some(views) = wire::block_views(&it.data) else { return Ok(()) };
         self.shown.store(Some(views));
+        self.blocks.accepted(views.view);
         if kind == Some(Kind::Propose) {
             self.hold.proposed(now);
         }

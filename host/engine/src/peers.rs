@@ -3,6 +3,7 @@
 use std::time::Duration;
 
 use crate::frame::Standing;
+use crate::recent;
 use crate::time::Time;
 
 /// Without a status for so long a peer counts as gone.
@@ -49,6 +50,14 @@ impl Peers {
     /// Whether nothing came from a peer of late. This replica itself is never silent.
     pub fn is_silent(&self, peer: u32, now: Time) -> bool {
         self.heard[peer as usize].is_some_and(|it| it.is_older(SILENT_AFTER, now))
+    }
+
+    /// What a peer reported last.
+    pub fn last_of(&self, peer: u32, now: Time) -> recent::Heard {
+        let it = self.heard[peer as usize].unwrap_or_default();
+        let age = it.at.map(|at| now.since(at));
+        let is_heard = !it.is_older(SILENT_AFTER, now);
+        recent::Heard { peer, age, is_heard, standing: it.standing }
     }
 
     /// How many replicas are heard, this one among them.

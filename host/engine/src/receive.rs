@@ -133,7 +133,9 @@ impl<C: Core> Engine<C> {
             Some(Answer::Closed)
         } else if self.is_over() {
             Some(Answer::Over)
-        } else if self.intake.of_clients() + txs.len() > self.options.max_waiting {
+        } else if self.intake.of_clients() + txs.len() > self.options.max_waiting
+            || !self.intake.own.has_room(&txs, self.options.max_of_client)
+        {
             Some(Answer::Busy)
         } else {
             None

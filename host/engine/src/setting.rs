@@ -54,6 +54,8 @@ pub struct Options {
     pub share_after: Duration,
     /// Transactions of the own clients that may wait here; above it clients are refused.
     pub max_waiting: usize,
+    /// Of these, transactions of one client.
+    pub max_of_client: usize,
     /// An Ask waits until f+1 replicas are in its view.
     pub hold_asks: bool,
     /// For tests: what was received and heard is put out.
@@ -98,6 +100,7 @@ impl Default for Options {
             hold: true,
             share_after: Duration::from_millis(500),
             max_waiting: 16_000,
+            max_of_client: 1000,
             hold_asks: true,
             log_receipts: false,
             fetch_rate: 100.0,

@@ -1,9 +1,11 @@
 //! The engine over a core that a test plays.
 
 use super::*;
+use crate::clients::Answer;
 use crate::engine::{Input, Output, Restored};
 use crate::frame::{Frame, Receipt, Standing};
 use crate::intake::played::{proposal_of, Call, PlayedDesk};
+use crate::recent::{Heard, View};
 use crate::setting::{Options, Place};
 use crate::tx;
 use themis::{Message, Reason};
@@ -143,6 +145,44 @@ fn a_client_hears_ok_once_its_transaction_is_durable() {
 }
 
 #[test]
+fn what_operators_see_of_transactions_and_peers() {
+    let mut it = engine(Options::default());
+    opened(&mut it);
+    let tx = tx::parse("1.1.0").unwrap();
+    for ticket in [3, 4] {
+        it.take(Input::Submit { ticket, txs: vec![tx] }, NOW).unwrap();
+    }
+    let received: Vec<Output> =
+        it.outputs().into_iter().filter(|it| matches!(it, Output::Received(_))).collect();
+    assert_eq!(received, [Output::Received(vec![tx])], "once, although it came twice");
+    let standing = Standing { view: 7, commit: 5, waiting: 1, batches: 9 };
+    hears(&mut it, 2, Frame::Status(standing));
+    let later = Duration::from_secs(2);
+    let heard = it.peers_heard(NOW + later);
+    assert_eq!(heard.iter().map(|it| it.peer).collect::<Vec<_>>(), [1, 2, 3, 4]);
+    let two = Heard { peer: 2, age: Some(later), is_heard: false, standing };
+    assert_eq!((heard[1], heard[0].age), (two, None));
+    assert!(it.peers_heard(NOW)[1].is_heard);
+}
+
+#[test]
+fn a_view_has_failed_without_a_block() {
+    let mut it = engine(Options::default());
+    let has_block = |it: &Engine<Played>| it.recent_views()[0].has_block;
+    let first = View { number: 1, leader: 1, has_block: false };
+    assert_eq!(it.recent_views(), [first]);
+    let block = proposal_of(1, &[&burst()[..1]; 4]);
+    it.core_mut().refuses = Some((block.to_vec(), Reason::Misfit));
+    hears(&mut it, 1, Frame::Message(block.clone()));
+    work(&mut it, NOW);
+    assert!(!has_block(&it));
+    it.core_mut().refuses = None;
+    hears(&mut it, 1, Frame::Message(block));
+    work(&mut it, NOW);
+    assert!(has_block(&it));
+}
+
+#[test]
 fn a_refused_vote_is_delivered_again_once_its_block_is_stored() {
     let mut it = engine(Options::default());
     it.core_mut().refuses = Some((VOTE.to_vec(), Reason::Orphan));
@@ -268,9 +308,40 @@ fn what_was_final_in_earlier_sessions_is_not_taken_again() {
     assert_eq!(it.status(NOW).arrived, 1);
 }
 
+/// The attack that starved all others: what one client has waiting is bounded, so the others wait for
+/// that much at most, also where the replica has room for more.
+#[test]
+fn a_client_that_has_much_waiting_keeps_nobody_else_out() {
+    let mut it = engine(Options { max_of_client: 200, ..Options::default() });
+    opened(&mut it);
+    let of = |client: u32, count: u32| -> Vec<Tx> {
+        (0..count).map(|number| Tx { client, number, payload: 0 }).collect()
+    };
+    let mut refused = |ticket, txs| {
+        it.take(Input::Submit { ticket, txs }, NOW).unwrap();
+        it.outputs().contains(&Output::Answer(ticket, Answer::Busy))
+    };
+    assert!(refused(1, of(1, 201)));
+    assert!(!refused(2, of(1, 200)));
+    assert!(refused(3, of(1, 201)[200..].to_vec()));
+    assert!(!refused(4, of(2, 200)));
+}
+
+#[test]
+fn all_clients_together_have_a_bound() {
+    let mut it = engine(Options { max_waiting: 3, ..Options::default() });
+    opened(&mut it);
+    for client in 1..=4 {
+        let txs = vec![Tx { client, number: 0, payload: 0 }];
+        it.take(Input::Submit { ticket: client.into(), txs }, NOW).unwrap();
+        let is_busy = it.outputs().contains(&Output::Answer(client.into(), Answer::Busy));
+        assert_eq!(is_busy, client == 4);
+    }
+}
+
 #[test]
 fn each_peer_is_told_in_order_and_from_the_start_on_a_new_connection() {
-    let mut it = engine(Options::default());
+    let mut it = engine(Options { max_of_client: 1500, ..Options::default() });
     opened(&mut it);
     let told = |it: &mut Engine<Played>, peer: u32, at: u64| -> Vec<(u64, usize)> {
         work(it, NOW + Duration::from_millis(at));

@@ -6,7 +6,7 @@ use std::os::unix::fs::PermissionsExt;
 use std::path::{Path, PathBuf};
 use std::time::Duration;
 
-use serde::{Deserialize, Deserializer};
+use serde::{Deserialize, Deserializer, Serialize};
 use sha2::{Digest, Sha256};
 use themis::{Height, Role};
 use themis_engine::setting::{Options, PaceOptions, Place};
@@ -15,25 +15,35 @@ use themis_engine::tx::{self, Tx};
 use crate::exit::{Exit, Failure};
 
 /// What all replicas of a session agree on.
-#[derive(Debug, Deserialize)]
+#[derive(Clone, Debug, Deserialize, Serialize)]
 #[serde(deny_unknown_fields)]
 pub struct Cluster {
     /// The number of the session.
     pub session: u32,
     /// How many replicas there are.
     pub n: u32,
-    f: u32,
-    p: u32,
-    q: u32,
+    /// How many of them may be faulty.
+    pub f: u32,
+    /// Fairness is p/q.
+    pub p: u32,
+    /// Fairness is p/q.
+    pub q: u32,
     /// The last view.
     pub views: u32,
-    height: u32,
-    peers: Vec<String>,
-    clients: Vec<String>,
-    publics: Vec<String>,
+    /// Of the keys, by its number.
+    pub height: u32,
+    /// Where replicas take each other's connections, by replica.
+    pub peers: Vec<String>,
+    /// Where replicas take clients, by replica.
+    pub clients: Vec<String>,
+    /// Public keys in hexadecimal digits, by replica.
+    pub publics: Vec<String>,
     /// Files of certificates, by replica.
     pub certificates: Vec<String>,
-    /// How replicas talk to each other.
+    /// The file with the certificate of the authority that signs clients' certificates.
+    #[serde(default)]
+    pub client_authority: String,
+    /// How replicas talk to each other and to clients.
     #[serde(default)]
     pub transport: Transport,
 }
@@ -42,6 +52,9 @@ impl Cluster {
     /// Whether each list has an item for each replica; the cause where it has not.
     fn check(&self) -> Result<(), String> {
         let count = self.n as usize;
+        if self.transport == Transport::Tls && self.client_authority.is_empty() {
+            return Err("client_authority is missing: who signs the certificates of clients".into());
+        }
         let has_certificates =
             self.transport == Transport::Plain || self.certificates.len() == count;
         let lists = [self.peers.len(), self.clients.len(), self.publics.len()];
@@ -53,8 +66,23 @@ impl Cluster {
     }
 }
 
-/// How replicas talk to each other.
-#[derive(Clone, Copy, Debug, Default, Deserialize, PartialEq, Eq)]
+impl Cluster {
+    /// What the library is told about a replica.
+    pub fn role(&self, me: u32) -> Result<Role, Failure> {
+        let &Cluster { n, f, p, q, views, height, .. } = self;
+        let height = height_of(height)
+            .ok_or_else(|| Failure::new(Exit::Config, format!("no height: {height}")))?;
+        Ok(Role { n, f, p, q, views, me, height })
+    }
+
+    /// The public keys, by replica; none where one of them is none.
+    pub fn keys(&self) -> Option<Vec<[u8; 60]>> {
+        self.publics.iter().map(|it| unhex(it)?.try_into().ok()).collect()
+    }
+}
+
+/// How replicas talk to each other and to clients.
+#[derive(Clone, Copy, Debug, Default, Deserialize, Serialize, PartialEq, Eq)]
 #[serde(rename_all = "lowercase")]
 pub enum Transport {
     /// TLS 1.3.
@@ -87,6 +115,7 @@ pub struct Config {
     #[serde(deserialize_with = "seconds")]
     share_after: Duration,
     max_waiting: usize,
+    max_of_client: usize,
     hold_asks: bool,
     use_keys: bool,
     fetch_rate: f64,
@@ -96,7 +125,7 @@ pub struct Config {
     idle_view_floor: Duration,
     /// Records are made durable.
     pub fsync: bool,
-    /// The client port takes the command `fault`.
+    /// The operator's socket takes the command `fault`.
     pub allow_faults: bool,
     /// What was received and heard goes to a file.
     log_receipts: bool,
@@ -120,6 +149,7 @@ impl Default for Config {
             hold: options.hold,
             share_after: options.share_after,
             max_waiting: options.max_waiting,
+            max_of_client: options.max_of_client,
             hold_asks: options.hold_asks,
             use_keys: true,
             fetch_rate: options.fetch_rate,
@@ -173,14 +203,12 @@ impl Setup {
         }
         cluster.check().map_err(|it| bad(&shared, it))?;
         let addresses = |texts: &[String]| {
-            let parsed = texts.iter().map(|it| it.parse().map_err(|_| it.clone()));
+            let parsed = texts.iter().map(|it| address_of(it).ok_or_else(|| it.clone()));
             let parsed = parsed.collect::<Result<Vec<SocketAddr>, String>>();
             parsed.map_err(|it| bad(&shared, format!("no address: {it}")))
         };
-        let keys = cluster.publics.iter().map(|it| unhex(it)?.try_into().ok());
-        let public_keys = keys
-            .collect::<Option<Vec<[u8; 60]>>>()
-            .ok_or_else(|| bad(&shared, "a public key has 60 bytes"))?;
+        let keys = cluster.keys();
+        let public_keys = keys.ok_or_else(|| bad(&shared, "a public key has 60 bytes"))?;
         let (peers, clients) = (addresses(&cluster.peers)?, addresses(&cluster.clients)?);
         Ok(Setup { config, cluster, folder, peers, clients, public_keys })
     }
@@ -211,6 +239,7 @@ impl Setup {
             hold: it.hold,
             share_after: it.share_after,
             max_waiting: it.max_waiting,
+            max_of_client: it.max_of_client,
             hold_asks: it.hold_asks,
             log_receipts: it.log_receipts,
             fetch_rate: it.fetch_rate,
@@ -220,21 +249,17 @@ impl Setup {
 
     /// What the library is told about the replica.
     pub fn role(&self) -> Result<Role, Failure> {
-        let it = &self.cluster;
-        let height = match it.height {
-            5 => Height::H5,
-            10 => Height::H10,
-            505 => Height::H5H5,
-            510 => Height::H5H10,
-            other => return Err(Failure::new(Exit::Config, format!("no height: {other}"))),
-        };
-        let me = self.me();
-        Ok(Role { n: it.n, f: it.f, p: it.p, q: it.q, views: it.views, me, height })
+        self.cluster.role(self.me())
     }
 
     /// The file of the log.
     pub fn log_path(&self) -> PathBuf {
         self.folder.join(&self.config.log)
+    }
+
+    /// The operator's socket.
+    pub fn operator_path(&self) -> PathBuf {
+        self.folder.join(format!("{}.sock", self.me()))
     }
 
     /// The file of what was received and heard, where a test wants it.
@@ -243,17 +268,9 @@ impl Setup {
         self.config.log_receipts.then(|| self.folder.join(name))
     }
 
-    /// The 48 bytes of the secret file, which others must not be able to read.
+    /// The replica's secret.
     pub fn secret(&self) -> Result<[u8; 48], Failure> {
-        let path = self.folder.join(&self.config.secret_file);
-        let meta = std::fs::metadata(&path).map_err(|it| bad(&path, it))?;
-        if meta.permissions().mode() & 0o077 != 0 {
-            return Err(bad(&path, "others can read this secret: chmod 600"));
-        }
-        let text = std::fs::read_to_string(&path).map_err(|it| bad(&path, it))?;
-        unhex(text.trim())
-            .and_then(|it| it.try_into().ok())
-            .ok_or_else(|| bad(&path, "a secret has 48 bytes, in hex"))
+        secret_of(&self.folder.join(&self.config.secret_file))
     }
 
     /// Names the session: peers with another digest are refused.
@@ -290,10 +307,41 @@ impl Setup {
             return Ok(Vec::new());
         }
         let path = self.folder.join(name);
-        let text = std::fs::read_to_string(&path).map_err(|it| bad(&path, it))?;
+        let text = std::fs::read_to_string(&path).map_err(|it| match it.kind() {
+            std::io::ErrorKind::NotFound => bad(&path, "it is missing: `cluster next` writes it"),
+            _ => bad(&path, it),
+        })?;
         let read = |it| tx::parse(it).ok_or_else(|| bad(&path, format!("no transaction: {it}")));
         text.split_whitespace().map(read).collect()
     }
+}
+
+/// The address that a text names: numbers alone, since names need a server that may lie.
+pub fn address_of(text: &str) -> Option<SocketAddr> {
+    text.parse().ok()
+}
+
+/// The height of keys that a number names.
+pub fn height_of(number: u32) -> Option<Height> {
+    match number {
+        5 => Some(Height::H5),
+        10 => Some(Height::H10),
+        505 => Some(Height::H5H5),
+        510 => Some(Height::H5H10),
+        _ => None,
+    }
+}
+
+/// The 48 bytes of a secret file, which others must not be able to read.
+pub fn secret_of(path: &Path) -> Result<[u8; 48], Failure> {
+    let meta = std::fs::metadata(path).map_err(|it| bad(path, it))?;
+    if meta.permissions().mode() & 0o077 != 0 {
+        return Err(bad(path, "others can read this secret: chmod 600"));
+    }
+    let text = std::fs::read_to_string(path).map_err(|it| bad(path, it))?;
+    unhex(text.trim())
+        .and_then(|it| it.try_into().ok())
+        .ok_or_else(|| bad(path, "a secret has 48 bytes, in hex"))
 }
 
 /// Bytes as hexadecimal digits.
@@ -313,7 +361,8 @@ fn bad(path: &Path, text: impl std::fmt::Display) -> Failure {
     Failure::new(Exit::Config, format!("{}: {text}", path.display()))
 }
 
-fn read_toml<T: for<'de> Deserialize<'de>>(path: &Path) -> Result<T, Failure> {
+/// The value of a file.
+pub fn read_toml<T: for<'de> Deserialize<'de>>(path: &Path) -> Result<T, Failure> {
     let text = std::fs::read_to_string(path).map_err(|it| bad(path, it))?;
     toml::from_str(&text).map_err(|it| bad(path, it))
 }

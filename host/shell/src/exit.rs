@@ -7,6 +7,8 @@ use std::fmt;
 pub enum Exit {
     /// A fault of this program.
     Fault = 1,
+    /// Something is there already, or is not there, that the command needs otherwise.
+    Usage = 2,
     /// The configuration, a secret or a certificate can't be used.
     Config = 3,
     /// Another process uses the log.
@@ -17,8 +19,10 @@ pub enum Exit {
     Disk = 6,
     /// The core ran out of memory.
     Core = 7,
-    /// A port can't be opened.
+    /// A port can't be opened, or a replica does not answer its operator.
     Network = 8,
+    /// A replica runs, and is not healthy.
+    Unhealthy = 11,
 }
 
 /// A cause to end the process.

@@ -1,7 +1,10 @@
 //! What the network hands to the engine's thread.
 
-use std::sync::mpsc;
+use std::io;
+use std::sync::atomic::{AtomicU64, Ordering};
+use std::sync::{mpsc, Arc};
 
+use themis::Standing;
 use themis_engine::frame::Frame;
 use themis_engine::tx::Tx;
 use themis_engine::{Answer, Ticket};
@@ -40,6 +43,15 @@ pub enum Request {
     Status(oneshot::Sender<String>),
     /// Asks for the pages of HTTP.
     Pages(oneshot::Sender<Pages>),
+    /// Asks for what the live page shows, a line of JSON.
+    Picture(oneshot::Sender<String>),
+    /// Asks what has become of a transaction.
+    Find {
+        /// The transaction.
+        tx: Tx,
+        /// Takes the answer.
+        answer: oneshot::Sender<Found>,
+    },
     /// Takes no more transactions.
     Close(oneshot::Sender<()>),
     /// A fault that a test orders; whether there is such a one.
@@ -61,20 +73,46 @@ pub struct Pages {
     pub fault: Option<&'static str>,
 }
 
+/// What has become of a transaction.
+pub struct Found {
+    /// What the library knows of it.
+    pub standing: Standing,
+    /// The position of its batch, if it is final in this session.
+    pub position: Option<usize>,
+}
+
 /// The inbox of the engine's thread. What peers put in is bounded by their slots, and what clients
 /// do by their number.
 #[derive(Clone)]
-pub struct Inbox(mpsc::Sender<Request>);
+pub struct Inbox {
+    requests: mpsc::Sender<Request>,
+    next: Arc<AtomicU64>,
+}
 
 impl Inbox {
     /// An inbox, and its other end.
     pub fn new() -> (Inbox, mpsc::Receiver<Request>) {
         let (sender, receiver) = mpsc::channel();
-        (Inbox(sender), receiver)
+        (Inbox { requests: sender, next: Arc::default() }, receiver)
     }
 
     /// Hands a request over. Where the engine has ended, so does the process, and nobody waits.
     pub fn put(&self, request: Request) {
-        let _ = self.0.send(request);
+        let _ = self.requests.send(request);
+    }
+
+    /// A name for a submission that no other one has.
+    pub fn ticket(&self) -> Ticket {
+        self.next.fetch_add(1, Ordering::Relaxed)
+    }
+
+    /// The engine's answer to a question.
+    pub async fn ask<T>(
+        &self,
+        question: impl FnOnce(oneshot::Sender<T>) -> Request,
+    ) -> io::Result<T> {
+        let (sender, answer) = oneshot::channel();
+        self.put(question(sender));
+        answer.await.map_err(|_| io::ErrorKind::ConnectionAborted.into())
     }
 }

@@ -14,7 +14,7 @@ use tokio::sync::Notify;
 use tokio::time::{sleep, timeout};
 
 use crate::input::{Inbox, Request};
-use crate::jitter;
+use crate::run::jitter;
 use crate::tls::{Stream, Trust};
 
 /// Bytes; above it the oldest frames are dropped.

@@ -1,68 +1,142 @@
-//! One replica of a Themis cluster: `themisd CONFIG.toml`.
+//! One replica of a Themis cluster, and what its operator needs: `themisd COMMAND`.
 //!
-//! The process has two threads. One has the engine, the core and the log (`worker`); the main one
-//! runs tokio, which serves the sockets. They share bounded queues alone: `input`, `link`,
+//! A running replica has two threads. One has the engine, the core and the log (`worker`); the main
+//! one runs tokio, which serves the sockets. They share bounded queues alone: `input`, `link`,
 //! `batches`. No proof covers this program.
 
+mod account;
 mod batches;
+mod certificate;
 mod client_port;
 mod config;
+mod connections;
 mod exit;
 mod http;
+mod identity;
+mod init;
 mod input;
+mod join;
+mod latency;
 mod link;
 mod log;
 mod metrics;
+mod new_file;
+mod observed;
+mod operator;
 mod peer_port;
+mod picture;
 mod read_frame;
 mod receipt_log;
 mod report;
+mod run;
 mod sys;
 mod timed;
 mod tls;
 mod worker;
 
-use std::hash::{BuildHasher, Hasher};
-use std::path::{Path, PathBuf};
+use std::path::PathBuf;
 use std::process::ExitCode;
-use std::sync::Arc;
 
-use clap::Parser;
-use themis_engine::frame::Frame;
-use tokio::net::TcpListener;
-use tokio::signal::unix::{signal, SignalKind};
-use tokio::sync::{oneshot, Semaphore};
+use clap::{Parser, Subcommand};
 
-use crate::batches::Batches;
-use crate::client_port::ClientPort;
-use crate::config::Setup;
-use crate::exit::{Exit, Failure};
-use crate::input::{Inbox, Request};
-use crate::link::Link;
-use crate::peer_port::{PeerPort, MAX_WAITING};
-use crate::tls::Trust;
-use crate::worker::{Shared, Worker};
+use crate::exit::Failure;
+use crate::init::Wanted;
+use crate::join::Setting;
 
-/// One replica of a Themis cluster.
+/// One replica of a Themis cluster, and what its operator needs.
+///
+/// docs/SERVICE.md has the exit statuses, and what each key of a configuration means.
 #[derive(Parser)]
+#[command(name = "themisd", version)]
 struct Arguments {
-    /// Its configuration, in TOML.
-    config: PathBuf,
-    /// Log each connection.
-    #[arg(long)]
-    verbose: bool,
-    /// Stop when the process that started this one ends (Linux).
-    #[arg(long)]
-    with_parent: bool,
+    #[command(subcommand)]
+    command: Command,
+}
+
+#[derive(Subcommand)]
+enum Command {
+    /// Run a replica, until SIGTERM or SIGINT.
+    ///
+    /// It needs its configuration, and the files that this names: what all replicas share, its
+    /// secret, its TLS key, and its log. It writes its own log of events there, and to standard
+    /// error a JSON object for each thing that an operator should know.
+    Run {
+        /// The replica's configuration, in TOML.
+        config: PathBuf,
+        /// Report each connection too.
+        #[arg(long)]
+        verbose: bool,
+        /// Stop when the process that started this one ends (Linux).
+        #[arg(long)]
+        with_parent: bool,
+    },
+    /// Make a replica's own secret, its TLS key and certificate, and its public part.
+    ///
+    /// It needs the command `openssl`. Give the public part (REPLICA.public.toml) to the others; the
+    /// secret and the TLS key stay on this machine. No file is overwritten.
+    Init(Wanted),
+    /// Make what a replica of a new cluster needs besides: from the public parts of all replicas.
+    ///
+    /// It needs what `init` has made for this replica, the public parts of all replicas, and the
+    /// certificate of the authority that signs those of clients. It writes the file that all replicas
+    /// share (cluster.toml), the certificates, the replica's configuration and its empty log. Each
+    /// operator calls it with the same parts and the same setting; compare what it prints, which
+    /// names the session. No file is overwritten.
+    Join(Setting),
+    /// Write what an audit needs of this replica's session, without any secret.
+    ///
+    /// It needs the configuration, the secret and the log of a replica that has stopped. It plays the
+    /// log again, which takes as long as a start, and prints lines of JSON.
+    Account {
+        /// The replica's configuration.
+        config: PathBuf,
+    },
+    /// Print where a running replica stands, as a line of JSON.
+    ///
+    /// It needs the configuration of a replica that runs on this machine, and has to be called by
+    /// the same user. It ends with 0 if the replica is healthy, with 11 if it is not (the key `fault`
+    /// says why), and with 8 if it does not answer.
+    Status {
+        /// The replica's configuration.
+        config: PathBuf,
+    },
+    /// Have a running replica take no more transactions.
+    ///
+    /// This starts the end of a session: once all replicas are closed, wait until their statuses have
+    /// equal digests and nothing pending. It needs what `status` needs.
+    Close {
+        /// The replica's configuration.
+        config: PathBuf,
+    },
 }
 
 fn main() -> ExitCode {
-    let given = Arguments::parse();
-    if given.with_parent {
-        sys::stop_with_parent();
+    let done = match Arguments::parse().command {
+        Command::Run { config, verbose, with_parent } => {
+            if with_parent {
+                sys::stop_with_parent();
+            }
+            report::set_up(verbose);
+            return logged(run::run(&config));
+        }
+        Command::Init(wanted) => init::make(&wanted),
+        Command::Join(setting) => join::make(&setting),
+        Command::Account { config } => account::print(&config),
+        Command::Status { config } => operator::print_status(&config),
+        Command::Close { config } => operator::close(&config),
+    };
+    match done {
+        Ok(()) => ExitCode::SUCCESS,
+        Err(failure) => {
+            eprintln!("themisd: {failure}");
+            ExitCode::from(failure.exit as u8)
+        }
     }
-    report::set_up(given.verbose);
-    match run(&given.config) {
+}
+
+/// How a replica ended, as a line of its log and as a status.
+fn logged(ended: Result<(), Failure>) -> ExitCode {
+    match ended {
         Ok(()) => {
             tracing::info!("stopped");
             ExitCode::SUCCESS
@@ -72,78 +146,5 @@ fn main() -> ExitCode {
             tracing::error!(status, cause = %failure, "ended");
             ExitCode::from(status)
         }
-    }
-}
-
-/// A number from 0 to 1 that nobody can foresee.
-fn jitter() -> f64 {
-    let drawn = std::collections::hash_map::RandomState::new().build_hasher().finish();
-    drawn as f64 / u64::MAX as f64
-}
-
-/// Runs the replica of a configuration until SIGTERM or SIGINT.
-fn run(config: &Path) -> Result<(), Failure> {
-    let setup = Arc::new(Setup::load(config)?);
-    let trust = Trust::new(&setup)?;
-    let replicas = || 0..setup.cluster.n;
-    let shared = Shared {
-        links: replicas().map(|it| (it != setup.me()).then(|| Link::new(it))).collect(),
-        slots: replicas().map(|_| Semaphore::new(MAX_WAITING)).collect(),
-        batches: Arc::new(Batches::new()),
-    };
-    let worker = Worker::open(setup.clone(), shared.clone())?;
-    let runtime = tokio::runtime::Builder::new_current_thread().enable_all().build();
-    let runtime = runtime.map_err(|it| Failure::new(Exit::Fault, it))?;
-    runtime.block_on(serve(&setup, trust, shared, worker))
-}
-
-/// Opens the ports, and serves them next to the engine's thread until that ends.
-async fn serve(setup: &Setup, trust: Trust, shared: Shared, worker: Worker) -> Result<(), Failure> {
-    let network = |fault| Failure::new(Exit::Network, fault);
-    let me = setup.me() as usize;
-    let peer_listener = TcpListener::bind(setup.peers[me]).await.map_err(network)?;
-    let client_listener = TcpListener::bind(setup.clients[me]).await.map_err(network)?;
-    let mut terminated = signal(SignalKind::terminate()).map_err(network)?;
-    let mut interrupted = signal(SignalKind::interrupt()).map_err(network)?;
-
-    let (inbox, receiver) = Inbox::new();
-    dial(setup, &trust, &shared, &inbox);
-    let session = setup.session_digest();
-    let (links, slots) = (shared.links, shared.slots);
-    let peers = PeerPort::new(trust, inbox.clone(), links, session, slots);
-    let clients = ClientPort::new(inbox.clone(), shared.batches, setup.config.allow_faults);
-    tokio::spawn(peers.run(peer_listener));
-    tokio::spawn(clients.run(client_listener));
-
-    let (sender, mut ended) = oneshot::channel();
-    let work = move || {
-        // Where nobody waits for the result, the process has ended.
-        let _ = sender.send(worker.run(&receiver));
-    };
-    let thread = std::thread::Builder::new().name("engine".to_owned()).spawn(work);
-    thread.map_err(|it| Failure::new(Exit::Fault, it))?;
-    loop {
-        tokio::select! {
-            _ = terminated.recv() => inbox.put(Request::Stop),
-            _ = interrupted.recv() => inbox.put(Request::Stop),
-            result = &mut ended => {
-                let gone = || Err(Failure::new(Exit::Fault, "the engine's thread has ended"));
-                return result.unwrap_or_else(|_| gone());
-            }
-        }
-    }
-}
-
-/// Connects to all peers, for ever.
-fn dial(setup: &Setup, trust: &Trust, shared: &Shared, inbox: &Inbox) {
-    let hello = Frame::Hello { session: setup.session_digest(), replica: setup.me() }.encode();
-    for peer in setup.place().others() {
-        let (links, at) = (shared.links.clone(), setup.peers[peer as usize]);
-        let (hello, trust, inbox) = (hello.clone(), trust.clone(), inbox.clone());
-        tokio::spawn(async move {
-            if let Some(link) = &links[peer as usize] {
-                link.run(at, &hello, &trust, &inbox).await;
-            }
-        });
     }
 }

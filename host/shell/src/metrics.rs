@@ -4,10 +4,11 @@ use std::fmt::{Display, Write};
 
 use themis_engine::{Count, Status};
 
+use crate::latency::Histogram;
 use crate::timed::Spent;
 
 /// What the shell counts, and what it is told about the replica.
-pub struct Counted {
+pub struct Counted<'a> {
     /// The replica.
     pub replica: u32,
     /// Its session.
@@ -26,6 +27,8 @@ pub struct Counted {
     pub syncs: Spent,
     /// Calls of the core.
     pub calls: [(&'static str, Spent); 8],
+    /// How long transactions took.
+    pub latency: &'a Histogram,
 }
 
 /// The counts of the engine: their names, those of their metrics, and what they count.
@@ -72,6 +75,17 @@ impl Page {
         self.sample(&format!("{name}_count"), labels, it.calls);
     }
 
+    fn histogram(&mut self, name: &str, help: &str, it: &Histogram) {
+        self.head(name, "histogram", help);
+        let bucket = format!("{name}_bucket");
+        for (bound, count) in it.buckets() {
+            self.sample(&bucket, &format!("{{le=\"{bound}\"}}"), count);
+        }
+        self.sample(&bucket, "{le=\"+Inf\"}", it.count);
+        self.sample(&format!("{name}_sum"), "", it.sum.as_secs_f64());
+        self.sample(&format!("{name}_count"), "", it.count);
+    }
+
     fn counts(&mut self, counts: &[Count]) {
         for (name, metric, help) in COUNTS {
             self.head(metric, "counter", help);
@@ -94,7 +108,7 @@ fn labels_of(count: &Count) -> String {
 }
 
 /// What Prometheus reads of a replica.
-pub fn page_of(status: &Status, counted: &Counted) -> String {
+pub fn page_of(status: &Status, counted: &Counted<'_>) -> String {
     let mut page = Page(String::new());
     page.head("replica_info", "gauge", "The replica, and its session.");
     let labels = format!("{{replica=\"{}\",session=\"{}\"}}", counted.replica, counted.session);
@@ -111,11 +125,13 @@ pub fn page_of(status: &Status, counted: &Counted) -> String {
     for (kind, spent) in counted.calls {
         page.spent("core_call_seconds", &format!("{{call=\"{kind}\"}}"), spent);
     }
+    let help = "From receipt here to final here.";
+    page.histogram("final_seconds", help, counted.latency);
     page.counts(&status.counts);
     page.0
 }
 
-fn put_status(page: &mut Page, it: &Status, counted: &Counted) {
+fn put_status(page: &mut Page, it: &Status, counted: &Counted<'_>) {
     page.gauge("view", "The view of the replica.", it.view);
     page.gauge("last_view", "The last view of the session.", counted.last_view);
     page.gauge("committed_view", "The view of the committed block.", it.commit);
@@ -168,7 +184,7 @@ mod tests {
         }
     }
 
-    fn counted() -> Counted {
+    fn counted(latency: &Histogram) -> Counted<'_> {
         let spent = Spent { calls: 4, took: Duration::from_millis(1500) };
         Counted {
             replica: 2,
@@ -180,6 +196,7 @@ mod tests {
             bad_frames: 6,
             syncs: spent,
             calls: [("turn", spent); 8],
+            latency,
         }
     }
 
@@ -187,7 +204,8 @@ mod tests {
     fn each_metric_has_its_type_and_its_samples() {
         let count = Count { name: "refused", peer: Some(3), reason: None, value: 11 };
         let by_reason = Count { name: "reason", peer: None, reason: Some(0), value: 12 };
-        let page = page_of(&status(vec![count, by_reason]), &counted());
+        let latency = Histogram::default();
+        let page = page_of(&status(vec![count, by_reason]), &counted(&latency));
         for line in [
             "# TYPE themis_view gauge",
             "themis_view 7",
@@ -199,6 +217,10 @@ mod tests {
             "themis_core_call_seconds_sum{call=\"turn\"} 1.5",
             "themis_messages_refused_total{peer=\"3\"} 11",
             "themis_turns_total{reason=\"0\"} 12",
+            "# TYPE themis_final_seconds histogram",
+            "themis_final_seconds_bucket{le=\"0.1\"} 0",
+            "themis_final_seconds_bucket{le=\"+Inf\"} 0",
+            "themis_final_seconds_count 0",
             "themis_bad_frames_total 6",
         ] {
             assert!(page.lines().any(|it| it == line), "{line} is not in\n{page}");

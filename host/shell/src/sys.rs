@@ -12,6 +12,18 @@ pub fn lock(file: &File) -> bool {
     unsafe { libc::flock(file.as_raw_fd(), libc::LOCK_EX | libc::LOCK_NB) == 0 }
 }
 
+/// Fills this with bytes that nobody can foresee, once the system has gathered enough.
+pub fn draw(to: &mut [u8; 48]) -> std::io::Result<()> {
+    // SAFETY: the call writes that many bytes at most, which are those of `to`.
+    let size = unsafe { libc::getrandom(to.as_mut_ptr().cast(), to.len(), 0) };
+    // So few bytes come all together, or none.
+    if usize::try_from(size) == Ok(to.len()) {
+        Ok(())
+    } else {
+        Err(std::io::Error::last_os_error())
+    }
+}
+
 /// Ends the process as a crash does.
 pub fn die() -> ! {
     // SAFETY: neither call reads or writes memory of this process.

@@ -108,7 +108,7 @@ fn client(peer: &Certificate, own: Certificate, key: PrivateKey) -> Result<Clien
         .with_safe_default_cipher_suites()
         .with_safe_default_kx_groups()
         .with_protocol_versions(&[&TLS13])?
-        .with_custom_certificate_verifier(Arc::new(Known(Arc::from([peer.clone()]))))
+        .with_custom_certificate_verifier(Arc::new(Known::of(peer.clone())))
         .with_single_cert(vec![own], key)?;
     made.session_storage = Arc::new(NoClientSessionStorage {});
     Ok(made)
@@ -116,9 +116,14 @@ fn client(peer: &Certificate, own: Certificate, key: PrivateKey) -> Result<Clien
 
 /// Accepts these certificates. That the other side has the key of the one it shows is checked by the
 /// default methods of both traits.
-struct Known(Arc<[Certificate]>);
+pub struct Known(Arc<[Certificate]>);
 
 impl Known {
+    /// Accepts one certificate.
+    pub fn of(it: Certificate) -> Known {
+        Known(Arc::from([it]))
+    }
+
     fn check(&self, shown: &Certificate) -> Result<(), Error> {
         if self.0.contains(shown) {
             Ok(())
@@ -157,19 +162,22 @@ impl ClientCertVerifier for Known {
     }
 }
 
-fn certificate(path: &Path) -> Result<Certificate, Failure> {
+/// The first certificate of a file, in PEM.
+pub fn certificate(path: &Path) -> Result<Certificate, Failure> {
     let file = File::open(path).map_err(|it| bad(path, it))?;
     let found = rustls_pemfile::certs(&mut BufReader::new(file)).map_err(|it| bad(path, it))?;
     found.into_iter().next().map(Certificate).ok_or_else(|| bad(path, "no certificate"))
 }
 
-fn private_key(path: &Path) -> Result<PrivateKey, Failure> {
+/// The private key of a file, in PEM.
+pub fn private_key(path: &Path) -> Result<PrivateKey, Failure> {
     let file = File::open(path).map_err(|it| bad(path, it))?;
     let found = rustls_pemfile::pkcs8_private_keys(&mut BufReader::new(file))
         .map_err(|it| bad(path, it))?;
     found.into_iter().next().map(PrivateKey).ok_or_else(|| bad(path, "no private key"))
 }
 
-fn bad(path: &Path, text: impl std::fmt::Display) -> Failure {
+/// A file that can't be used.
+pub fn bad(path: &Path, text: impl std::fmt::Display) -> Failure {
     Failure::new(Exit::Config, format!("{}: {text}", path.display()))
 }

@@ -7,16 +7,20 @@ use std::time::{Duration, Instant};
 
 use serde_json::{json, Map, Value};
 use themis::{Error, Replica};
+use themis_engine::core::Desk;
+use themis_engine::tx::Tx;
 use themis_engine::{Answer, Engine, Input, Output, Restored, Ticket, Time};
 use tokio::sync::{oneshot, Semaphore};
 
 use crate::batches::Batches;
 use crate::config::{hex, Setup};
 use crate::exit::{Exit, Failure};
-use crate::input::{Pages, Request};
+use crate::input::{Found, Pages, Request};
 use crate::link::Link;
 use crate::log::{Disk, EventLog};
 use crate::metrics::{fault_of, page_of, Counted};
+use crate::observed::Observed;
+use crate::picture::{picture_of, Seen};
 use crate::receipt_log::ReceiptLog;
 use crate::timed::{Spent, Timed};
 
@@ -43,6 +47,7 @@ pub struct Worker {
     receipts: Option<ReceiptLog>,
     shared: Shared,
     clients: HashMap<Ticket, oneshot::Sender<Answer>>,
+    observed: Observed,
     start: Instant,
     syncs: Spent,
     frame_faults: u64,
@@ -76,6 +81,7 @@ impl Worker {
             receipts,
             shared,
             clients: HashMap::new(),
+            observed: Observed::default(),
             start: Instant::now(),
             syncs: Spent::default(),
             frame_faults: 0,
@@ -163,6 +169,12 @@ impl Worker {
             Request::Pages(answer) => {
                 let _ = answer.send(self.pages(now));
             }
+            Request::Picture(answer) => {
+                let _ = answer.send(self.picture(now));
+            }
+            Request::Find { tx, answer } => {
+                let _ = answer.send(self.find(&tx)?);
+            }
             Request::Close(answer) => {
                 self.engine.take(Input::Close, now)?;
                 let _ = answer.send(());
@@ -195,7 +207,11 @@ impl Worker {
                         let _ = client.send(answer);
                     }
                 }
-                Output::Batch { position, txs } => self.shared.batches.push(position, &txs),
+                Output::Batch { position, txs } => {
+                    self.observed.became_final(position, &txs, now);
+                    self.shared.batches.push(position, &txs);
+                }
+                Output::Received(txs) => self.observed.latency.received(&txs, now),
                 Output::Freed(peer, count) => {
                     self.shared.slots[peer as usize].add_permits(count as usize);
                 }
@@ -234,6 +250,7 @@ impl Worker {
     fn status(&mut self, now: Time) -> String {
         let it = self.engine.status(now);
         let dropped: u64 = self.shared.links.iter().flatten().map(Link::dropped).sum();
+        let fault = fault_of(&it, self.setup.place().quorum());
         let fields = json!({
             "replica": self.setup.me(), "session": self.setup.cluster.session,
             "view": it.view, "views": self.setup.cluster.views, "commit": it.commit,
@@ -241,7 +258,7 @@ impl Worker {
             "arrived": it.arrived, "final": it.finals, "pending": it.pending,
             "queued": it.queued, "given": it.given, "heard": it.heard, "log_bytes": self.log.end,
             "is_over": it.is_over, "is_closing": it.is_closing, "dropped": dropped,
-            "syncs": self.syncs.calls, "sync_us": self.syncs.micros(),
+            "syncs": self.syncs.calls, "sync_us": self.syncs.micros(), "fault": fault,
         });
         let Value::Object(mut fields) = fields else { return String::new() };
         let mut put = |name: String, count: u64| fields.insert(name, Value::from(count));
@@ -272,8 +289,28 @@ impl Worker {
             bad_frames: self.frame_faults,
             syncs: self.syncs,
             calls: self.engine.core_mut().all(),
+            latency: self.observed.latency.histogram(),
         };
         Pages { metrics: page_of(&status, &counted), fault: fault_of(&status, counted.quorum) }
+    }
+
+    /// What the live page shows.
+    fn picture(&self, now: Time) -> String {
+        picture_of(&Seen {
+            setup: &self.setup,
+            status: &self.engine.status(now),
+            heard: &self.engine.peers_heard(now),
+            views: &self.engine.recent_views(),
+            observed: &self.observed,
+            start: self.start,
+            now: Instant::now(),
+        })
+    }
+
+    /// What has become of a transaction.
+    fn find(&mut self, tx: &Tx) -> Result<Found, Failure> {
+        let standing = self.engine.core_mut().standing(tx)?;
+        Ok(Found { standing, position: self.observed.position_of(tx) })
     }
 
     /// Makes the fault that a test orders; none where there is no such fault.

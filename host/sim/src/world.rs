@@ -245,6 +245,7 @@ impl World {
                     self.has_new = true;
                 }
                 Output::Freed(peer, count) => self.free(replica, peer, count)?,
+                Output::Received(_) => {}
                 Output::Noted(note) => self.receipts.note(replica, note),
             }
         }

@@ -14,6 +14,7 @@ use std::collections::{HashMap, VecDeque};
 use bytes::Bytes;
 use themis::{Arrivals, Error, Held, Receipt, Standing, Taken, Tx};
 
+use crate::own::Own;
 use crate::setting::Place;
 use crate::wire;
 pub use desk::Desk;
@@ -62,6 +63,10 @@ pub struct Intake {
     early_blocks: VecDeque<Bytes>,
     /// Receipts are stamped.
     is_open: bool,
+    /// What each client has waiting here.
+    pub own: Own,
+    /// What was received since the last call of `take_received`.
+    received: Vec<Tx>,
     /// Only where a test wants them.
     notes: Option<Vec<Note>>,
 }
@@ -80,6 +85,8 @@ impl Intake {
             early: Vec::new(),
             early_blocks: VecDeque::new(),
             is_open: place.quorum() <= 1,
+            own: Own::default(),
+            received: Vec::new(),
             notes: is_noted.then(Vec::new),
         }
     }
@@ -128,6 +135,7 @@ impl Intake {
             for tx in txs {
                 if desk.standing(tx)? == Standing::Unknown {
                     receipts.push(Receipt { tx: *tx, stamp: 0 });
+                    self.own.put(*tx);
                 }
             }
             let new = receipts.len();
@@ -139,6 +147,7 @@ impl Intake {
             if desk.submit(tx)? == Taken::New {
                 new += 1;
                 self.held.own += 1;
+                self.own.put(*tx);
                 self.received(*tx);
             }
         }
@@ -192,6 +201,7 @@ impl Intake {
         self.is_stale = true;
         self.held.all += 1;
         self.held.waiting += 1;
+        self.received.push(tx);
         self.note(Note::Received(tx));
     }
 
@@ -262,6 +272,7 @@ impl Intake {
         self.is_stale = true;
         self.finals += txs.len();
         desk.settle(txs)?;
+        txs.iter().for_each(|it| self.own.remove(it));
         self.held = desk.held()?;
         Ok(())
     }
@@ -337,6 +348,11 @@ impl Intake {
     }
 
     // ---- notes
+
+    /// What a client or a peer brought first, since the last call.
+    pub fn take_received(&mut self) -> Vec<Tx> {
+        std::mem::take(&mut self.received)
+    }
 
     fn note(&mut self, note: Note) {
         if let Some(notes) = &mut self.notes {
