@@ -14,10 +14,11 @@ DEBIAN = pathlib.Path("/usr/share/cargo/registry")
 OLDEST_CARGO = (1, 82)
 # Crates that the host names, as Debian packages them.
 CRATES = (
-    "bytes", "clap", "hyper", "libc", "rand", "rand-chacha", "rustls-pemfile", "serde", "serde-json", "sha2",
-    "socket2", "tokio", "tokio-rustls", "toml", "tracing", "tracing-subscriber",
+    "bytes", "clap", "hyper", "libc", "rand", "rand-chacha", "rusqlite", "rustls-pemfile", "serde",
+    "serde-json", "sha2", "socket2", "tokio", "tokio-rustls", "toml", "tracing", "tracing-subscriber",
 )
-PACKAGES = [f"librust-{crate}-dev" for crate in CRATES]
+# One of them is the library that rusqlite is linked with.
+PACKAGES = ["libsqlite3-dev", *(f"librust-{crate}-dev" for crate in CRATES)]
 INSTALL = ["apt-get", "install", "-y", "--no-install-recommends", *PACKAGES]
 
 
@@ -63,6 +64,12 @@ def resolves(cargo: list[str], host: pathlib.Path) -> bool:
     return succeeds([*cargo, "generate-lockfile"], 120, host)
 
 
+def links_sqlite(scratch: pathlib.Path) -> bool:
+    """Whether the library of SQLite is there to be linked with."""
+    made = ["-shared", "-x", "c", os.devnull, "-lsqlite3", "-o", str(scratch / "sqlite.so")]
+    return succeeds(["cc", *made], 60)
+
+
 def is_installed() -> bool:
     """Installs Debian's packages, and says whether that succeeds."""
     succeeds(["apt-get", "update"], 300)
@@ -97,6 +104,8 @@ def cargo_words(
         '[source.crates-io]\nreplace-with = "debian"\n'
         f'[source.debian]\ndirectory = "{DEBIAN}"\n'
     )
+    if not links_sqlite(scratch) and not (may_install and is_installed()):
+        raise NoCrates("there is no library of SQLite to link with")
     public, debian = ["cargo"], ["cargo", "--config", str(config), "--offline"]
     if not is_debian_first and resolves(public, host):
         return public

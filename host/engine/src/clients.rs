@@ -4,6 +4,8 @@ use std::collections::BTreeMap;
 
 use themis::{Error, Tx};
 
+use crate::window::Check;
+
 /// Names a submission; its host chooses it.
 pub type Ticket = u64;
 
@@ -23,6 +25,8 @@ pub enum Answer {
     Closed,
     /// The session has ended.
     Over,
+    /// This transaction is not taken: by its number, or as its client is one of the service.
+    Refused(Tx, Check),
 }
 
 /// Submissions that wait for their answers.

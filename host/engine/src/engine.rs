@@ -20,6 +20,7 @@ use crate::pace::ViewPace;
 use crate::pacemaker::Pacemaker;
 use crate::peers::Peers;
 use crate::recent::Blocks;
+use crate::sessions::running::Session;
 use crate::setting::{Options, Place};
 use crate::time::Time;
 use crate::turns::Turns;
@@ -99,8 +100,13 @@ pub struct Restored<'a> {
     pub header: usize,
     /// What was final in earlier sessions.
     pub settled: Vec<Tx>,
-    /// What arrived in the session before and was not final, in its order.
+    /// What arrived in the session before and was not final, in its order. Where sessions follow one
+    /// another, it arrives first.
     pub carried: Vec<Tx>,
+    /// The session, where sessions follow one another.
+    pub session: Option<Session>,
+    /// Chains the batches before.
+    pub digest: [u8; 32],
 }
 
 /// The host of one replica, without anything that it touches.
@@ -130,6 +136,10 @@ pub struct Engine<C> {
     pub(crate) commit_at: Time,
     started_at: Time,
     pub(crate) is_closing: bool,
+    /// The session, where sessions follow one another.
+    pub(crate) session: Option<Session>,
+    /// What arrives before anything else.
+    pub(crate) first: Vec<Tx>,
     /// Where this replica stands has changed since it was reported.
     pub(crate) is_report_due: bool,
     pub(crate) reported_at: Time,
@@ -201,15 +211,17 @@ impl<C: Core> Engine<C> {
             commit_at: now,
             started_at: now,
             is_closing: false,
+            session: restored.session,
+            first: Vec::new(),
             is_report_due: false,
             reported_at: now,
             timers: Timers { pace: now, announce: now, gossip: now },
             outputs: Vec::new(),
         };
-        let Restored { log, header, settled, carried } = restored;
-        made.core.core.desk().settle(&settled)?;
-        made.restore(log, header)?;
-        made.intake.submit(made.core.core.desk(), &carried)?;
+        made.finals.digest = restored.digest;
+        made.core.core.desk().settle(&restored.settled)?;
+        made.restore(restored.log, restored.header)?;
+        made.carry(restored.carried)?;
         Ok(made)
     }
 
@@ -219,7 +231,12 @@ impl<C: Core> Engine<C> {
         let mut delivered = Vec::new();
         for event in records(log, header).filter_map(event_of) {
             match event {
-                Event::Arrived(txs) => self.intake.restore(self.core.core.desk(), &txs)?,
+                Event::Arrived(txs) => {
+                    self.intake.restore(self.core.core.desk(), &txs)?;
+                    if let Some(session) = &mut self.session {
+                        session.has_arrived(&txs);
+                    }
+                }
                 Event::Delivered(it) => delivered.push(it),
                 Event::Tick(_) => {}
             }
@@ -294,14 +311,14 @@ impl<C: Core> Engine<C> {
 
     pub(crate) fn standing(&self) -> Standing {
         // Both counts are of one session, and far below 2^32.
-        let (waiting, batches) = (self.intake.pending() as u32, self.finals.taken as u32);
+        let (waiting, batches) = (self.wanting() as u32, self.finals.taken as u32);
         Standing { view: self.core.view, commit: self.core.commit, waiting, batches }
     }
 
     /// Whether further views are wanted: here, or at more peers than may be faulty; or so that a
     /// block shows what is final.
     pub(crate) fn is_wanted(&self, now: Time) -> bool {
-        self.intake.pending() > 0 || self.peers.someone_waits(now) || !self.shown.is_all()
+        self.wanting() > 0 || self.peers.someone_waits(now) || !self.shown.is_all()
     }
 
     /// Whether clients have to wait for the next session.
@@ -328,7 +345,7 @@ impl<C: Core> Engine<C> {
         if self.hold.is_empty() {
             return;
         }
-        let waiting = self.intake.pending().max(self.intake.queued());
+        let waiting = if self.is_cut() { 0 } else { self.intake.queued() };
         let wish = Wish {
             is_wanted: self.is_wanted(now),
             is_due: self.pace.is_due(waiting, now),
@@ -366,6 +383,9 @@ impl<C: Core> Engine<C> {
     pub(crate) fn take_batches(&mut self) -> Result<(), Error> {
         let mut all = Vec::new();
         for position in self.finals.taken..self.core.core.batch_count()? {
+            if self.is_cut() {
+                break;
+            }
             let txs = self.core.core.batch(position)?;
             let mut data = self.finals.digest.to_vec();
             for it in &txs {
@@ -374,6 +394,9 @@ impl<C: Core> Engine<C> {
             self.finals.digest = Sha256::digest(&data).into();
             self.finals.taken += 1;
             all.extend_from_slice(&txs);
+            if let Some(session) = &mut self.session {
+                session.take_batch(&txs);
+            }
             self.put(Output::Batch { position, txs });
         }
         self.intake.finalised(self.core.core.desk(), &all)

@@ -21,7 +21,8 @@ impl<C: Core> Engine<C> {
             self.intake.chain_changed();
         }
         let has_committed = self.core.commit != old_commit;
-        let makes_final = has_committed && self.core.core.batch_count()? > self.finals.taken;
+        let makes_final =
+            has_committed && !self.is_cut() && self.core.core.batch_count()? > self.finals.taken;
         if makes_final {
             self.finals.view = self.core.view;
             self.shown.made_final(self.core.commit);
@@ -33,6 +34,9 @@ impl<C: Core> Engine<C> {
         let fetched: Vec<_> =
             sends.iter().filter_map(|it| wire::fetched_digest(&it.bytes)).collect();
         self.send_turn(sends, makes_final, now);
+        if let (Event::Arrived(txs), Some(session)) = (event, &mut self.session) {
+            session.has_arrived(txs);
+        }
         if let Event::Delivered(it) = event {
             self.follow_message(it, reason, fetched, now)?;
             if self.core.view != old_view {

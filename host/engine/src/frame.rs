@@ -84,6 +84,13 @@ pub struct BadFrame {
     size: usize,
 }
 
+impl BadFrame {
+    /// That many bytes of a kind that are no frame.
+    pub fn new(kind: u8, size: usize) -> BadFrame {
+        BadFrame { kind, size }
+    }
+}
+
 impl fmt::Display for BadFrame {
     fn fmt(&self, to: &mut fmt::Formatter<'_>) -> fmt::Result {
         write!(to, "a frame of kind {} with {} bytes", self.kind, self.size)

@@ -56,6 +56,14 @@ impl Inbox {
         self.freed[peer as usize] += 1;
     }
 
+    /// No message waits any more.
+    pub fn clear(&mut self) {
+        for (of, freed) in self.of_peer.iter_mut().zip(&mut self.freed) {
+            *freed += of.len() as u32;
+            of.clear();
+        }
+    }
+
     /// The slots that became free since the last call, by peer.
     pub fn take_freed(&mut self) -> impl Iterator<Item = (u32, u32)> + '_ {
         let freed = self.freed.iter_mut().enumerate().filter(|(_, count)| **count > 0);

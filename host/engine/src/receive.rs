@@ -56,6 +56,11 @@ impl<C: Core> Engine<C> {
             }
             Frame::Receipts { clock, receipts } => {
                 if self.allowances[at].takes_receipts(receipts.len(), now) {
+                    let desk = self.core.core.desk();
+                    let receipts = match &mut self.session {
+                        Some(session) => session.sift(desk, peer, receipts)?,
+                        None => receipts,
+                    };
                     self.intake.hear(self.core.core.desk(), peer, receipts, clock)?;
                 } else {
                     self.counters.peers[at].receipts_dropped += 1;

@@ -9,6 +9,7 @@ use themis::{Error, Tx};
 
 use crate::core::{Core, Delivered, Event, Turn};
 use crate::engine::Engine;
+use crate::sessions::running::Used;
 use crate::time::Time;
 use crate::wire;
 
@@ -49,6 +50,13 @@ pub(crate) struct Turns {
     is_pending: bool,
     /// Their records are durable.
     released: VecDeque<Event>,
+}
+
+impl Turns {
+    /// Whether no event is prepared or waits for its turn.
+    pub fn is_idle(&self) -> bool {
+        !self.is_pending && self.released.is_empty()
+    }
 }
 
 impl<C: Core> Engine<C> {
@@ -149,6 +157,12 @@ impl<C: Core> Engine<C> {
     /// the next local order is drawn, so it waits for that, but not for long. Where nothing has
     /// arrived yet, no proposal may come before something does.
     fn gather_arrivals(&mut self, messages: &[Delivered], now: Time) -> Result<Vec<Tx>, Error> {
+        if self.is_cut() {
+            return Ok(Vec::new()); // what has arrived by now is what is carried over
+        }
+        if !self.first.is_empty() {
+            return Ok(std::mem::take(&mut self.first));
+        }
         let is_late = self.turns.looked_at.is_none_or(|at| now.since(at) >= ARRIVE_EVERY);
         let draws = |it: &Delivered| {
             matches!(wire::kind_of(&it.data), Some(wire::Kind::Ask | wire::Kind::Propose))
@@ -157,7 +171,26 @@ impl<C: Core> Engine<C> {
             return Ok(Vec::new());
         }
         self.turns.looked_at = Some(now);
-        self.intake.arrivals(self.core.core.desk())
+        let mut out = self.service_arrivals(now)?;
+        out.extend(self.intake.arrivals(self.core.core.desk())?);
+        Ok(out)
+    }
+
+    /// Where sessions follow one another, transactions of the service arrive past the others, and
+    /// what is left of a session that ends waits for the next one.
+    fn service_arrivals(&mut self, now: Time) -> Result<Vec<Tx>, Error> {
+        let Some(session) = &mut self.session else { return Ok(Vec::new()) };
+        if !self.intake.is_open() {
+            return Ok(Vec::new());
+        }
+        let desk = self.core.core.desk();
+        let used = Used { commit: self.core.commit, arrived: self.intake.arrived() };
+        let txs = session.arrive(desk, used, now)?;
+        if session.is_ending(desk)? {
+            self.intake.end();
+        }
+        self.intake.brought(desk, &txs)?;
+        Ok(txs)
     }
 }
 

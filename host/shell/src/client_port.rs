@@ -24,6 +24,7 @@ use crate::connections::{Connections, Seat};
 use crate::http::{self, Site};
 use crate::identity::{ClientTrust, Identity};
 use crate::input::{Inbox, Request};
+use crate::refusal::cause_of;
 use crate::tls::Stream;
 
 const MAX_LINE: usize = 1 << 16;
@@ -57,7 +58,7 @@ impl ClientPort {
         trust: ClientTrust,
         inbox: Inbox,
         batches: Arc<Batches>,
-        session: u32,
+        session: Option<u32>,
     ) -> Arc<ClientPort> {
         let site = Site::new(inbox.clone(), batches.clone(), session);
         let connections = Connections::new();
@@ -166,6 +167,7 @@ impl ClientPort {
             Answer::Busy => "busy".to_owned(),
             Answer::Closed => "closed".to_owned(),
             Answer::Over => "over".to_owned(),
+            Answer::Refused(tx, why) => format!("bad {}", cause_of(&tx, why)),
         })
     }
 
@@ -180,7 +182,7 @@ impl ClientPort {
             let mut more = self.batches.watch();
             loop {
                 more.borrow_and_update();
-                let lines = self.batches.from(at, MAX_BATCHES);
+                let lines = self.batches.from(at, MAX_BATCHES).await?;
                 if lines.is_empty() {
                     more.changed().await.map_err(|_| io::ErrorKind::ConnectionAborted)?;
                     continue;

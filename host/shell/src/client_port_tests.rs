@@ -31,7 +31,7 @@ async fn opened(trust: ClientTrust) -> std::net::SocketAddr {
     });
     let batches = Arc::new(Batches::new());
     batches.push(0, &[Tx { client: 1, number: 2, payload: 3 }]);
-    let port = ClientPort::new(trust, inbox, batches, 1);
+    let port = ClientPort::new(trust, inbox, batches, Some(1));
     let listener = TcpListener::bind("127.0.0.1:0").await.unwrap();
     let at = listener.local_addr().unwrap();
     tokio::spawn(port.run(listener));
@@ -268,7 +268,7 @@ async fn a_line_is_bounded() {
 #[tokio::test(flavor = "current_thread")]
 async fn a_connection_is_served_line_by_line() {
     let (inbox, receiver) = Inbox::new();
-    let port = ClientPort::new(ClientTrust::Plain, inbox, Arc::new(Batches::new()), 1);
+    let port = ClientPort::new(ClientTrust::Plain, inbox, Arc::new(Batches::new()), Some(1));
     let listener = TcpListener::bind("127.0.0.1:0").await.unwrap();
     let at = listener.local_addr().unwrap();
     tokio::spawn(port.run(listener));

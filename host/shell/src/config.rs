@@ -123,6 +123,10 @@ pub struct Config {
     view_floor: Duration,
     #[serde(deserialize_with = "seconds")]
     idle_view_floor: Duration,
+    /// Sessions follow one another without end. The secret file has a master secret then.
+    pub sessions: bool,
+    /// Then logs of sessions stay, once no replica needs them.
+    pub keep_logs: bool,
     /// Records are made durable.
     pub fsync: bool,
     /// The operator's socket takes the command `fault`.
@@ -155,6 +159,8 @@ impl Default for Config {
             fetch_rate: options.fetch_rate,
             view_floor: options.pace.floor,
             idle_view_floor: options.pace.idle_floor,
+            sessions: false,
+            keep_logs: true,
             fsync: true,
             allow_faults: false,
             log_receipts: false,
@@ -273,6 +279,18 @@ impl Setup {
         secret_of(&self.folder.join(&self.config.secret_file))
     }
 
+    /// The 32 bytes of the secret file where sessions follow one another.
+    pub fn master(&self) -> Result<[u8; 32], Failure> {
+        secret_of(&self.folder.join(&self.config.secret_file))
+    }
+
+    /// What all replicas share, but for keys, on one line.
+    pub fn setting_line(&self) -> String {
+        let it = &self.cluster;
+        let (n, f, p, q, views, height) = (it.n, it.f, it.p, it.q, it.views, it.height);
+        format!("n={n} f={f} p={p} q={q} views={views} height={height}")
+    }
+
     /// Names the session: peers with another digest are refused.
     pub fn session_digest(&self) -> [u8; 32] {
         let it = &self.cluster;
@@ -332,8 +350,8 @@ pub fn height_of(number: u32) -> Option<Height> {
     }
 }
 
-/// The 48 bytes of a secret file, which others must not be able to read.
-pub fn secret_of(path: &Path) -> Result<[u8; 48], Failure> {
+/// The bytes of a secret file, which others must not be able to read.
+pub fn secret_of<const N: usize>(path: &Path) -> Result<[u8; N], Failure> {
     let meta = std::fs::metadata(path).map_err(|it| bad(path, it))?;
     if meta.permissions().mode() & 0o077 != 0 {
         return Err(bad(path, "others can read this secret: chmod 600"));
@@ -341,7 +359,7 @@ pub fn secret_of(path: &Path) -> Result<[u8; 48], Failure> {
     let text = std::fs::read_to_string(path).map_err(|it| bad(path, it))?;
     unhex(text.trim())
         .and_then(|it| it.try_into().ok())
-        .ok_or_else(|| bad(path, "a secret has 48 bytes, in hex"))
+        .ok_or_else(|| bad(path, format!("this secret has {N} bytes, in hex")))
 }
 
 /// Bytes as hexadecimal digits.

@@ -6,9 +6,12 @@ use std::sync::{mpsc, Arc};
 
 use themis::Standing;
 use themis_engine::frame::Frame;
+use themis_engine::sessions::frames::SessionFrame;
 use themis_engine::tx::Tx;
 use themis_engine::{Answer, Ticket};
 use tokio::sync::oneshot;
+
+use crate::keeper::Done;
 
 /// A request to the engine's thread.
 pub enum Request {
@@ -19,6 +22,15 @@ pub enum Request {
         /// What it sent.
         frame: Frame,
     },
+    /// The same, where sessions follow one another.
+    SessionFrame {
+        /// The peer.
+        peer: u32,
+        /// What it sent.
+        frame: SessionFrame,
+    },
+    /// The keeper has done what the engine asked for.
+    Done(Box<Done>),
     /// A peer's connection ended by what is no frame.
     BadFrame {
         /// The peer, if it is known.

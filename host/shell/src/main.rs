@@ -11,11 +11,13 @@ mod client_port;
 mod config;
 mod connections;
 mod exit;
+mod fault;
 mod http;
 mod identity;
 mod init;
 mod input;
 mod join;
+mod keeper;
 mod latency;
 mod link;
 mod log;
@@ -27,8 +29,12 @@ mod peer_port;
 mod picture;
 mod read_frame;
 mod receipt_log;
+mod recovery;
+mod refusal;
 mod report;
 mod run;
+mod session_logs;
+mod sessions_worker;
 mod sys;
 mod timed;
 mod tls;
@@ -69,6 +75,9 @@ enum Command {
         /// Stop when the process that started this one ends (Linux).
         #[arg(long)]
         with_parent: bool,
+        /// Make the store of a replica over sessions, which has never run.
+        #[arg(long)]
+        new: bool,
     },
     /// Make a replica's own secret, its TLS key and certificate, and its public part.
     ///
@@ -112,12 +121,12 @@ enum Command {
 
 fn main() -> ExitCode {
     let done = match Arguments::parse().command {
-        Command::Run { config, verbose, with_parent } => {
+        Command::Run { config, verbose, with_parent, new } => {
             if with_parent {
                 sys::stop_with_parent();
             }
             report::set_up(verbose);
-            return logged(run::run(&config));
+            return logged(run::run(&config, new));
         }
         Command::Init(wanted) => init::make(&wanted),
         Command::Join(setting) => join::make(&setting),

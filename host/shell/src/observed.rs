@@ -42,6 +42,12 @@ impl Observed {
         self.latest.push_back(LatestBatch { position, txs: txs.to_vec(), took, at });
     }
 
+    /// The batches before this position are in the store, which knows their transactions.
+    pub fn stored(&mut self, end: usize) {
+        self.positions.retain(|_, position| *position >= end);
+        self.positions.shrink_to_fit();
+    }
+
     /// The batch that holds a transaction.
     pub fn position_of(&self, tx: &Tx) -> Option<usize> {
         self.positions.get(tx).copied()

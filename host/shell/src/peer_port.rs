@@ -18,7 +18,7 @@ use tokio::time::{sleep, timeout};
 
 use crate::input::{Inbox, Request};
 use crate::link::Link;
-use crate::read_frame::{read_frame, NoFrame};
+use crate::read_frame::{read_frame, read_peer_frame, NoFrame, PeerFrame};
 use crate::tls::{Stream, Trust};
 
 const MAX_STRANGERS: usize = 64;
@@ -148,9 +148,12 @@ impl PeerPort {
         let slots = &self.slots[peer as usize];
         let is_cut = || self.links[peer as usize].as_ref().is_some_and(Link::is_cut);
         loop {
-            let frame = match read_frame(&mut from).await {
-                Ok(Frame::Hello { .. }) => return NoFrame::Bad("a second hello".to_owned()),
-                Ok(frame) => frame,
+            let request = match read_peer_frame(&mut from).await {
+                Ok(PeerFrame::Plain(Frame::Hello { .. })) => {
+                    return NoFrame::Bad("a second hello".to_owned());
+                }
+                Ok(PeerFrame::Plain(frame)) => Request::Frame { peer, frame },
+                Ok(PeerFrame::OfSession(frame)) => Request::SessionFrame { peer, frame },
                 Err(fault) => return fault,
             };
             // The slots are never closed.
@@ -159,7 +162,7 @@ impl PeerPort {
             };
             if !is_cut() {
                 slot.forget(); // the engine frees it
-                self.inbox.put(Request::Frame { peer, frame });
+                self.inbox.put(request);
             }
         }
     }

@@ -20,6 +20,10 @@ const MAX_NAMED: usize = 4;
 pub struct Seen<'a> {
     /// The replica's setting.
     pub setup: &'a Setup,
+    /// The session that runs.
+    pub session: u32,
+    /// How many batches are in the sessions before.
+    pub first: usize,
     /// Where it stands.
     pub status: &'a Status,
     /// What its peers report.
@@ -36,17 +40,17 @@ pub struct Seen<'a> {
 
 /// The picture.
 pub fn picture_of(seen: &Seen<'_>) -> String {
-    let (status, cluster) = (seen.status, &seen.setup.cluster);
+    let status = seen.status;
     let place = seen.setup.place();
     let percentiles = seen.observed.latency.percentiles(WITHIN, seen.now);
     let views = seen.views.iter().map(|it| json!([it.number, it.leader, it.has_block]));
     let latest = seen.observed.latest().map(|it| batch(it, seen.now));
     json!({
         "uptime_ms": millis(seen.now.saturating_duration_since(seen.start)),
-        "replica": place.me, "session": cluster.session, "f": place.f, "quorum": place.quorum(),
+        "replica": place.me, "session": seen.session, "f": place.f, "quorum": place.quorum(),
         "fault": fault_of(status, place.quorum()), "is_closing": status.is_closing,
         "view": status.view, "last_view": place.views, "commit": status.commit,
-        "batches": status.batches, "final": status.finals,
+        "batches": seen.first + status.batches, "final": status.finals,
         "pending": status.pending, "queued": status.queued, "given": status.given,
         "p50_ms": percentiles.map(|(it, _)| millis(it)),
         "p99_ms": percentiles.map(|(_, it)| millis(it)),

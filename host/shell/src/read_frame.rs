@@ -4,6 +4,7 @@ use std::{fmt, io};
 
 use bytes::Bytes;
 use themis_engine::frame::{Frame, MAX_FRAME};
+use themis_engine::sessions::frames::SessionFrame;
 use tokio::io::{AsyncRead, AsyncReadExt};
 
 /// Why no frame came.
@@ -32,6 +33,31 @@ impl fmt::Display for NoFrame {
 
 /// The next frame.
 pub async fn read_frame(from: &mut (impl AsyncRead + Unpin)) -> Result<Frame, NoFrame> {
+    let (kind, payload) = read_bytes(from).await?;
+    Frame::decode(kind, payload).map_err(|it| NoFrame::Bad(it.to_string()))
+}
+
+/// A frame of a peer.
+pub enum PeerFrame {
+    /// Without a session.
+    Plain(Frame),
+    /// Where sessions follow one another.
+    OfSession(SessionFrame),
+}
+
+/// The next frame, with or without its session.
+pub async fn read_peer_frame(from: &mut (impl AsyncRead + Unpin)) -> Result<PeerFrame, NoFrame> {
+    let (kind, payload) = read_bytes(from).await?;
+    let read = if SessionFrame::has_kind(kind) {
+        SessionFrame::decode(kind, &payload).map(PeerFrame::OfSession)
+    } else {
+        Frame::decode(kind, payload).map(PeerFrame::Plain)
+    };
+    read.map_err(|it| NoFrame::Bad(it.to_string()))
+}
+
+/// The kind and the payload of the next frame.
+async fn read_bytes(from: &mut (impl AsyncRead + Unpin)) -> Result<(u8, Bytes), NoFrame> {
     let size = from.read_u32().await? as usize;
     if !(1..=MAX_FRAME).contains(&size) {
         return Err(NoFrame::Bad(format!("a frame of {size} bytes")));
@@ -39,7 +65,7 @@ pub async fn read_frame(from: &mut (impl AsyncRead + Unpin)) -> Result<Frame, No
     let kind = from.read_u8().await?;
     let mut payload = vec![0; size - 1];
     from.read_exact(&mut payload).await?;
-    Frame::decode(kind, Bytes::from(payload)).map_err(|it| NoFrame::Bad(it.to_string()))
+    Ok((kind, Bytes::from(payload)))
 }
 
 #[cfg(test)]

@@ -15,9 +15,11 @@ use crate::config::Setup;
 use crate::exit::{Exit, Failure};
 use crate::identity::ClientTrust;
 use crate::input::{Inbox, Request};
+use crate::keeper::Keeper;
 use crate::link::Link;
 use crate::operator::OperatorPort;
 use crate::peer_port::{PeerPort, MAX_WAITING};
+use crate::sessions_worker::{owner, recover, SessionsWorker};
 use crate::tls::Trust;
 use crate::worker::{Shared, Worker};
 
@@ -27,20 +29,38 @@ pub fn jitter() -> f64 {
     drawn as f64 / u64::MAX as f64
 }
 
-/// Runs the replica of a configuration until SIGTERM or SIGINT.
-pub fn run(config: &Path) -> Result<(), Failure> {
+/// Runs the replica of a configuration until SIGTERM or SIGINT. `is_new`: it has never run, and has
+/// no store of its sessions yet.
+pub fn run(config: &Path, is_new: bool) -> Result<(), Failure> {
     let setup = Arc::new(Setup::load(config)?);
     let (trust, client_trust) = (Trust::new(&setup)?, ClientTrust::new(&setup)?);
     let replicas = || 0..setup.cluster.n;
+    let found = setup.config.sessions.then(|| recover(&setup, is_new)).transpose()?;
+    let batches = match &found {
+        Some(found) => {
+            let reader = Keeper::reader(&setup.folder, &owner(&setup))?;
+            Batches::over(reader, found.history.session.first)
+        }
+        None => Batches::new(),
+    };
     let shared = Shared {
         links: replicas().map(|it| (it != setup.me()).then(|| Link::new(it))).collect(),
         slots: replicas().map(|_| Semaphore::new(MAX_WAITING)).collect(),
-        batches: Arc::new(Batches::new()),
+        batches: Arc::new(batches),
     };
-    let worker = Worker::open(setup.clone(), shared.clone())?;
+    let worker = match found {
+        Some(it) => Work::Many(Box::new(SessionsWorker::open(setup.clone(), shared.clone(), it)?)),
+        None => Work::One(Box::new(Worker::open(setup.clone(), shared.clone())?)),
+    };
     let runtime = tokio::runtime::Builder::new_current_thread().enable_all().build();
     let runtime = runtime.map_err(|it| Failure::new(Exit::Fault, it))?;
     runtime.block_on(serve(&setup, (trust, client_trust), shared, worker))
+}
+
+/// The engine's thread: of one session, or of many.
+enum Work {
+    One(Box<Worker>),
+    Many(Box<SessionsWorker>),
 }
 
 /// Opens the ports, and serves them next to the engine's thread until that ends.
@@ -48,7 +68,7 @@ async fn serve(
     setup: &Setup,
     (trust, client_trust): (Trust, ClientTrust),
     shared: Shared,
-    worker: Worker,
+    worker: Work,
 ) -> Result<(), Failure> {
     let network = |fault| Failure::new(Exit::Network, fault);
     let me = setup.me() as usize;
@@ -64,7 +84,7 @@ async fn serve(
     let session = setup.session_digest();
     let (links, slots) = (shared.links, shared.slots);
     let peers = PeerPort::new(trust, inbox.clone(), links, session, slots);
-    let number = setup.cluster.session;
+    let number = (!setup.config.sessions).then_some(setup.cluster.session);
     let clients = ClientPort::new(client_trust, inbox.clone(), shared.batches, number);
     let operator = OperatorPort::new(inbox.clone(), setup.config.allow_faults);
     tokio::spawn(peers.run(peer_listener));
@@ -72,9 +92,14 @@ async fn serve(
     tokio::spawn(operator.run(operator_listener));
 
     let (sender, mut ended) = oneshot::channel();
+    let answers = inbox.clone();
     let work = move || {
+        let result = match worker {
+            Work::One(it) => it.run(&receiver),
+            Work::Many(it) => it.run(&receiver, answers),
+        };
         // Where nobody waits for the result, the process has ended.
-        let _ = sender.send(worker.run(&receiver));
+        let _ = sender.send(result);
     };
     let thread = std::thread::Builder::new().name("engine".to_owned()).spawn(work);
     thread.map_err(|it| Failure::new(Exit::Fault, it))?;

@@ -3,18 +3,19 @@
 use std::collections::HashMap;
 use std::sync::mpsc::{Receiver, RecvTimeoutError};
 use std::sync::Arc;
-use std::time::{Duration, Instant};
+use std::time::Instant;
 
 use serde_json::{json, Map, Value};
 use themis::{Error, Replica};
 use themis_engine::core::Desk;
 use themis_engine::tx::Tx;
-use themis_engine::{Answer, Engine, Input, Output, Restored, Ticket, Time};
+use themis_engine::{Answer, Engine, Input, Output, Restored, Status, Ticket, Time};
 use tokio::sync::{oneshot, Semaphore};
 
 use crate::batches::Batches;
 use crate::config::{hex, Setup};
 use crate::exit::{Exit, Failure};
+use crate::fault::order;
 use crate::input::{Found, Pages, Request};
 use crate::link::Link;
 use crate::log::{Disk, EventLog};
@@ -25,8 +26,9 @@ use crate::receipt_log::ReceiptLog;
 use crate::timed::{Spent, Timed};
 
 /// Requests that are taken before turns are made: a flood of them stops no turn.
-const MAX_TAKEN: usize = 256;
-const MAX_LOGGED_FAULTS: u64 = 20;
+pub const MAX_TAKEN: usize = 256;
+/// Bad frames of which the log has a line.
+pub const MAX_LOGGED_FAULTS: u64 = 20;
 
 /// What the engine's thread shares with the one that serves the sockets.
 #[derive(Clone)]
@@ -69,7 +71,7 @@ impl Worker {
         log.recover(&data)?;
         let header = replica.header()?.len();
         let (settled, carried) = (setup.settled_before()?, setup.carried_over()?);
-        let restored = Restored { log: &data, header, settled, carried };
+        let restored = Restored { log: &data, header, settled, carried, ..Restored::default() };
         let (place, options) = (setup.place(), setup.options());
         let core = Timed::new(replica);
         let engine = Engine::open(place, options, core, restored, Time::default())?;
@@ -153,6 +155,11 @@ impl Worker {
                 self.engine.take(Input::Frame { peer, frame, room }, now)?;
             }
             Request::Connected(peer) => self.engine.take(Input::Connected(peer), now)?,
+            Request::SessionFrame { peer, .. } => {
+                self.shared.slots[peer as usize].add_permits(1);
+                self.note_bad_frame(Some(peer), "a frame of one of many sessions");
+            }
+            Request::Done(_) => {}
             Request::BadFrame { peer, cause } => self.note_bad_frame(peer, &cause),
             Request::Submit { ticket, txs, answer } => {
                 self.clients.insert(ticket, answer);
@@ -180,7 +187,8 @@ impl Worker {
                 let _ = answer.send(());
             }
             Request::Fault { words, answer } => {
-                let _ = answer.send(self.obey(&words).is_some());
+                let disks = std::iter::once(&mut self.log.disk);
+                let _ = answer.send(order(&words, &self.shared.links, disks).is_some());
             }
             Request::Stop => return Ok(false),
         }
@@ -248,31 +256,18 @@ impl Worker {
 
     /// Where the replica stands, and what it counted since its start, as a line of JSON.
     fn status(&mut self, now: Time) -> String {
-        let it = self.engine.status(now);
-        let dropped: u64 = self.shared.links.iter().flatten().map(Link::dropped).sum();
-        let fault = fault_of(&it, self.setup.place().quorum());
-        let fields = json!({
-            "replica": self.setup.me(), "session": self.setup.cluster.session,
-            "view": it.view, "views": self.setup.cluster.views, "commit": it.commit,
-            "batches": it.batches, "digest": hex(&it.digest),
-            "arrived": it.arrived, "final": it.finals, "pending": it.pending,
-            "queued": it.queued, "given": it.given, "heard": it.heard, "log_bytes": self.log.end,
-            "is_over": it.is_over, "is_closing": it.is_closing, "dropped": dropped,
-            "syncs": self.syncs.calls, "sync_us": self.syncs.micros(), "fault": fault,
-        });
-        let Value::Object(mut fields) = fields else { return String::new() };
-        let mut put = |name: String, count: u64| fields.insert(name, Value::from(count));
-        for count in it.counts.iter().filter(|it| it.value > 0) {
-            put(count.to_string(), count.value);
-        }
+        let standing = Standing {
+            dropped: self.shared.links.iter().flatten().map(Link::dropped).sum(),
+            log_bytes: self.log.end,
+            syncs: self.syncs,
+            frame_faults: self.frame_faults,
+        };
+        let mut fields = status_line(&self.setup, &self.engine.status(now), &standing);
         for (name, spent) in self.engine.core_mut().all() {
-            put(format!("{name}_us"), spent.micros());
-            put(format!("{name} calls"), spent.calls);
+            fields.insert(format!("{name}_us"), Value::from(spent.micros()));
+            fields.insert(format!("{name} calls"), Value::from(spent.calls));
         }
-        if self.frame_faults > 0 {
-            put("frame faults".to_owned(), self.frame_faults);
-        }
-        Value::Object(Map::from_iter(fields)).to_string()
+        Value::Object(fields).to_string()
     }
 
     /// What Prometheus reads, and whether the replica is healthy.
@@ -298,6 +293,8 @@ impl Worker {
     fn picture(&self, now: Time) -> String {
         picture_of(&Seen {
             setup: &self.setup,
+            session: self.setup.cluster.session,
+            first: 0,
             status: &self.engine.status(now),
             heard: &self.engine.peers_heard(now),
             views: &self.engine.recent_views(),
@@ -312,27 +309,40 @@ impl Worker {
         let standing = self.engine.core_mut().standing(tx)?;
         Ok(Found { standing, position: self.observed.position_of(tx) })
     }
+}
 
-    /// Makes the fault that a test orders; none where there is no such fault.
-    fn obey(&mut self, words: &[String]) -> Option<()> {
-        let words: Vec<&str> = words.iter().map(String::as_str).collect();
-        let links = &self.shared.links;
-        match words[..] {
-            ["cut", ref peers @ ..] => {
-                for peer in peers {
-                    links.get(peer.parse::<usize>().ok()?)?.as_ref()?.set_cut(true);
-                }
-            }
-            ["heal"] => links.iter().flatten().for_each(|it| it.set_cut(false)),
-            ["tear", size] => self.log.disk.tear_at = Some(size.parse().ok()?),
-            ["full"] => self.log.disk.is_full = true,
-            ["slow", seconds] => {
-                self.log.disk.delay = Duration::try_from_secs_f64(seconds.parse().ok()?).ok()?;
-            }
-            _ => return None,
-        }
-        Some(())
+/// What is counted next to the engine.
+pub struct Standing {
+    /// Frames that were dropped.
+    pub dropped: u64,
+    /// Bytes of the logs that are open.
+    pub log_bytes: u64,
+    /// Writes that were made durable.
+    pub syncs: Spent,
+    /// Bad frames.
+    pub frame_faults: u64,
+}
+
+/// The fields of a status, but for the calls of the core.
+pub fn status_line(setup: &Setup, it: &Status, standing: &Standing) -> Map<String, Value> {
+    let fields = json!({
+        "replica": setup.me(), "session": setup.cluster.session,
+        "view": it.view, "views": setup.cluster.views, "commit": it.commit,
+        "batches": it.batches, "digest": hex(&it.digest),
+        "arrived": it.arrived, "final": it.finals, "pending": it.pending,
+        "queued": it.queued, "given": it.given, "heard": it.heard,
+        "log_bytes": standing.log_bytes, "is_over": it.is_over, "is_closing": it.is_closing,
+        "dropped": standing.dropped, "syncs": standing.syncs.calls,
+        "sync_us": standing.syncs.micros(), "fault": fault_of(it, setup.place().quorum()),
+    });
+    let Value::Object(mut fields) = fields else { return Map::new() };
+    for count in it.counts.iter().filter(|it| it.value > 0) {
+        fields.insert(count.to_string(), Value::from(count.value));
     }
+    if standing.frame_faults > 0 {
+        fields.insert("frame faults".to_owned(), Value::from(standing.frame_faults));
+    }
+    fields
 }
 
 /// The core as its log leaves it, and how many bytes of the log are whole records.

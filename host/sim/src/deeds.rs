@@ -10,6 +10,8 @@ use rand_chacha::ChaCha8Rng;
 use themis::Error;
 use themis_engine::core::Core;
 use themis_engine::frame::{Frame, Receipt, Standing, HEAD_BYTES};
+use themis_engine::sessions::frames::{in_session, SessionFrame};
+use themis_engine::sessions::reserved::{announcer, marker};
 use themis_engine::tx::{self, Tx};
 use themis_engine::wire::{self, Kind};
 use themis_engine::{Engine, Input, Time};
@@ -78,6 +80,40 @@ impl Deeds {
         }
     }
 
+    /// The same where sessions follow one another.
+    pub fn send_of_many(&mut self, to: u32, data: Bytes) -> Option<Bytes> {
+        match SessionFrame::decode(data[4], &data.slice(HEAD_BYTES..)) {
+            Ok(SessionFrame::In { session, frame }) => {
+                let frame = self.tampered_keys(to, session, frame);
+                let sent = self.send(to, frame.encode())?;
+                Some(in_session(session, &sent))
+            }
+            Ok(SessionFrame::Part(mut part)) if self.does(Deed::FalseHistory) => {
+                part.end.digest[0] ^= 1;
+                part.batches.iter_mut().flatten().for_each(|it| it.payload ^= 1);
+                Some(SessionFrame::Part(part).encode())
+            }
+            Ok(SessionFrame::Ask(_) | SessionFrame::Part(_)) | Err(_) => Some(data),
+        }
+    }
+
+    /// Shows every second peer another key, and tells of the marker from the start on.
+    fn tampered_keys(&self, to: u32, session: u32, frame: Frame) -> Frame {
+        match frame {
+            Frame::Receipts { clock, mut receipts } => {
+                if self.does(Deed::TwoKeys) && to % 2 == 0 {
+                    let own = receipts.iter_mut().filter(|it| it.tx.client == announcer(self.me));
+                    own.for_each(|it| it.tx.payload ^= 1);
+                }
+                if self.does(Deed::EarlyMarker) {
+                    receipts.insert(0, Receipt { tx: marker(session), stamp: 0 });
+                }
+                Frame::Receipts { clock, receipts }
+            }
+            other => other,
+        }
+    }
+
     /// What it really sends, where its engine sends a frame to a peer.
     pub fn send(&mut self, to: u32, frame: Bytes) -> Option<Bytes> {
         let data = frame.slice(HEAD_BYTES..);
@@ -139,7 +175,14 @@ impl Deeds {
                 Deed::Flood => self.flood(engine, rng, &mut out),
                 Deed::FrontRun => self.front_run(engine, now, rng)?,
                 Deed::Split => self.split(engine, &mut out),
-                Deed::TwoHeads | Deed::Forge | Deed::Half | Deed::Mute | Deed::Reorder => {}
+                Deed::TwoHeads
+                | Deed::Forge
+                | Deed::Half
+                | Deed::Mute
+                | Deed::Reorder
+                | Deed::EarlyMarker
+                | Deed::TwoKeys
+                | Deed::FalseHistory => {}
             }
         }
         Ok(out)

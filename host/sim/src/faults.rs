@@ -19,6 +19,16 @@ impl World {
                 self.crash(replica, until);
             }
             FaultKind::Tear(_) | FaultKind::CrashAfterWrite => node.armed = Some(kind),
+            FaultKind::CrashAt(step, is_after) => node.armed_step = Some((step, is_after)),
+            FaultKind::LoseLog => {
+                if let Some(session) = node.store.as_ref().and_then(|it| it.marked) {
+                    if let Some(log) = node.disk.logs.remove(&session) {
+                        node.graves.insert(session, log);
+                        node.lost.push(session);
+                    }
+                }
+                self.crash(replica, until);
+            }
             FaultKind::Full => node.disk.is_full = true,
             FaultKind::Slow(ms) => node.disk.sync = Duration::from_millis(u64::from(ms)),
             FaultKind::Cut(peer) => {
@@ -49,6 +59,8 @@ impl World {
             FaultKind::Slow(_) => node.disk.sync = sync,
             FaultKind::Tear(_) | FaultKind::CrashAfterWrite => node.armed = None,
             FaultKind::Crash
+            | FaultKind::CrashAt(..)
+            | FaultKind::LoseLog
             | FaultKind::Rot(_)
             | FaultKind::Cut(_)
             | FaultKind::OneWay(_)

@@ -10,11 +10,15 @@
 #![forbid(unsafe_code)]
 
 mod chain;
+mod change;
+mod clients;
 mod clock;
 mod deeds;
 mod disk;
+mod driver;
 mod faults;
 mod keys;
+mod many;
 mod network;
 mod node;
 mod parts;
@@ -25,6 +29,7 @@ mod run;
 mod second_head;
 mod shrink;
 mod signer;
+mod store;
 mod tapped;
 mod trace;
 mod world;
@@ -87,6 +92,9 @@ struct Arguments {
     /// Submits that many others to each replica alone at the start.
     #[arg(long, default_value_t = 0)]
     spread: u32,
+    /// At least that many sessions follow one another; 0: one session alone.
+    #[arg(long, default_value_t = 0)]
+    sessions: u32,
 }
 
 /// What all runs came to.
@@ -95,6 +103,9 @@ struct Total {
     runs: u64,
     failed: Vec<u64>,
     views: u64,
+    sessions: u64,
+    out: u64,
+    carried: usize,
     finals: usize,
     with_jumps: u64,
     jumps: usize,
@@ -154,6 +165,7 @@ impl Arguments {
             deeds: self.deeds.clone(),
             burst: self.burst,
             spread: self.spread,
+            sessions: self.sessions,
         }
     }
 
@@ -190,6 +202,9 @@ fn line_of(seed: u64, edits: &Edits) -> String {
     if edits.spread > 0 {
         out += &format!(" --spread {}", edits.spread);
     }
+    if edits.sessions > 0 {
+        out += &format!(" --sessions {}", edits.sessions);
+    }
     if let Some(txs) = edits.txs {
         out += &format!(" --txs {txs}");
     }
@@ -214,6 +229,9 @@ fn work(given: &Arguments, seed: u64, total: &Mutex<Total>) {
     let Ok(mut total) = total.lock() else { return };
     total.runs += 1;
     total.views += u64::from(report.views);
+    total.sessions += u64::from(report.sessions);
+    total.out += u64::from(report.taken);
+    total.carried += report.carried;
     total.finals += report.finals;
     total.jumps += report.jumps;
     total.with_jumps += u64::from(report.jumps > 0);
@@ -228,19 +246,23 @@ fn work(given: &Arguments, seed: u64, total: &Mutex<Total>) {
 
 fn print_run(plan: &Plan, report: &Report, took: Duration) {
     println!(
-        "seed {} n={} latency={:?} faults={} deeds={:?} views={} final={} common={} given={} jumps={} events={} time={:.1?} late={:.1?} took={:.2?}",
-        plan.seed, plan.n, plan.latency, plan.faults.len(), plan.deeds, report.views, report.finals,
-        report.common, report.given, report.jumps, report.happenings, report.took, report.late, took,
+        "seed {} n={} sessions={} latency={:?} faults={} deeds={:?} views={} final={} common={} carried={} taken={} given={} jumps={} events={} gap={:.0?} time={:.1?} late={:.1?} took={:.2?}",
+        plan.seed, plan.n, report.sessions, plan.latency, plan.faults.len(), plan.deeds, report.views, report.finals,
+        report.common, report.carried, report.taken, report.given, report.jumps, report.happenings, report.gap, report.took, report.late, took,
     );
 }
 
 fn print_total(total: &Total, took: Duration) {
     println!(
-        "{} runs, {} failed; {} views, {} transactions final, {} runs audited; \
+        "{} runs, {} failed; {} sessions, {} of them taken from others, {} transactions carried over; {} views, \
+         {} transactions final, {} runs audited; \
          {} received by all, {} pairs jump in {} runs, {} runs gave way; \
          {:.0?} of their own time in {:.1?}",
         total.runs,
         total.failed.len(),
+        total.sessions,
+        total.out,
+        total.carried,
         total.views,
         total.finals,
         total.audited,

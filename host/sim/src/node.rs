@@ -9,16 +9,21 @@ use std::time::Duration;
 use bytes::Bytes;
 use themis::{Error, Replica, Role};
 use themis_engine::core::{event_of, records, Core, Event, Turn};
+use themis_engine::sessions::keys::PublicKey;
+use themis_engine::sessions::Sessions;
 use themis_engine::setting::{Options, Place};
 use themis_engine::tx::Tx;
-use themis_engine::{Engine, Pending, Restored, Time};
+use themis_engine::{Engine, Restored, Time};
 
+use crate::change::{Request, Step};
 use crate::clock::Clock;
 use crate::deeds::{Deeds, OWN_CLIENT};
 use crate::disk::Disk;
-use crate::keys::{public_keys, secret, HEIGHT};
+use crate::driver::{Driver, Prepared};
+use crate::keys::{for_library, public_keys, secret, HEIGHT};
 use crate::plan::{Deed, FaultKind, Plan};
 use crate::second_head::SecondHead;
+use crate::store::Durable;
 use crate::tapped::{Journal, Tapped, Twist};
 
 /// Frames of a peer that may wait in the engine.
@@ -51,7 +56,7 @@ fn header_of(role: Role) -> Result<Vec<u8>, Violation> {
     if let Some(header) = headers.get(&place) {
         return Ok(header.clone());
     }
-    let (mut replica, _) = Replica::open(&role, &secret(role.me), public_keys(role.n), &[])?;
+    let (mut replica, _) = Replica::open(&role, &secret(role.me, 0), &public_keys(role.n), &[])?;
     let header = replica.header()?.to_vec();
     headers.insert(place, header.clone());
     Ok(header)
@@ -60,9 +65,11 @@ fn header_of(role: Role) -> Result<Vec<u8>, Violation> {
 /// A process.
 pub struct Process {
     /// The engine.
-    pub engine: Engine<Tapped>,
+    pub driver: Driver,
     /// Records that are being written.
-    pub pending: Option<Pending>,
+    pub pending: Option<Prepared>,
+    /// What the engine asked for and is being done.
+    pub requests: BTreeMap<u64, Request>,
     /// When it is to be woken.
     pub wake: Time,
 }
@@ -81,8 +88,16 @@ pub struct Node {
     pub disk: Disk,
     /// Its clock.
     pub clock: Clock,
-    /// What it did.
-    pub journal: Rc<RefCell<Journal>>,
+    /// What it did, by session.
+    pub journals: BTreeMap<u32, Rc<RefCell<Journal>>>,
+    /// What outlives its sessions, where these follow one another.
+    pub store: Option<Durable>,
+    /// It ends at this step of the next change of session: after it, or before.
+    pub armed_step: Option<(Step, bool)>,
+    /// Sessions whose logs were lost.
+    pub lost: Vec<u32>,
+    /// What these logs were, for the audit.
+    pub graves: BTreeMap<u32, Vec<u8>>,
     /// Its final batches.
     pub batches: Vec<Vec<Tx>>,
     /// What is in them.
@@ -120,11 +135,17 @@ impl Node {
             down_until: Time::default(),
             disk: Disk { sync: plan.sync, ..Disk::default() },
             clock,
-            journal: Rc::default(),
+            journals: BTreeMap::new(),
+            store: plan
+                .is_many()
+                .then(|| Durable::new(public_keys(n).into_iter().map(Some).collect())),
+            armed_step: None,
+            lost: Vec::new(),
+            graves: BTreeMap::new(),
             batches: Vec::new(),
             finals: HashSet::new(),
             arrived: HashSet::new(),
-            deeds: (!deeds.is_empty()).then(|| Deeds::new(deeds, me, n, views, &secret(me))),
+            deeds: (!deeds.is_empty()).then(|| Deeds::new(deeds, me, n, views, &secret(me, 0))),
             armed: None,
             rot: None,
             slots: vec![SLOTS; n as usize],
@@ -134,54 +155,105 @@ impl Node {
             twist: match deeds {
                 _ if deeds.contains(&Deed::FrontRun) => Twist::First(OWN_CLIENT),
                 _ if deeds.contains(&Deed::Reorder) => Twist::Reversed,
+                _ if deeds.contains(&Deed::EarlyMarker) => Twist::Marked,
                 _ => Twist::None,
             },
             has_two_heads: deeds.contains(&Deed::TwoHeads),
         };
-        node.disk.log = header_of(role)?;
-        node.journal.borrow_mut().acted = node.disk.log.len();
+        if node.store.is_none() {
+            let header = header_of(role)?;
+            node.journal(0).borrow_mut().acted = header.len();
+            node.disk.logs.insert(0, header);
+        }
         Ok(node)
     }
 
-    fn opened(&self, log: &[u8]) -> Result<(Replica, usize), Error> {
-        let me = self.place.me;
-        Replica::open(&self.role, &secret(me), public_keys(self.place.n), log)
+    /// What it did in a session.
+    pub fn journal(&mut self, session: u32) -> Rc<RefCell<Journal>> {
+        self.journals.entry(session).or_default().clone()
     }
 
-    /// Starts a process over the log.
+    /// How many bytes of the log of a session it has acted on.
+    fn acted(&self, session: u32) -> usize {
+        self.journals.get(&session).map_or(0, |it| it.borrow().acted)
+    }
+
+    /// The log of a session.
+    pub fn log(&self, session: u32) -> &[u8] {
+        self.disk.logs.get(&session).map_or(&[], Vec::as_slice)
+    }
+
+    /// The log of a session, also one that the replica has lost.
+    pub fn any_log(&self, session: u32) -> &[u8] {
+        self.graves.get(&session).map_or_else(|| self.log(session), Vec::as_slice)
+    }
+
+    /// The public keys of a session.
+    pub fn keys(&self, session: u32) -> Vec<PublicKey> {
+        let known = self.store.as_ref().and_then(|it| it.keys(session));
+        known.map_or_else(|| public_keys(self.place.n), for_library)
+    }
+
+    /// The library's replica as a log leaves it.
+    pub fn opened(&self, session: u32, log: &[u8]) -> Result<(Replica, usize), Error> {
+        Replica::open(&self.role, &secret(self.place.me, session), &self.keys(session), log)
+    }
+
+    /// Starts a process over what is durable.
     pub fn start(&mut self, now: Time) -> Result<(), Violation> {
         if let Some(place) = self.rot.take() {
             self.check_rot(place)?;
         }
-        let (mut replica, used) = self.opened(&self.disk.log)?;
-        let acted = self.journal.borrow().acted;
-        if used < acted {
-            return Err(Violation(format!("a start keeps {used} of {acted} bytes acted on")));
-        }
-        self.disk.log.truncate(used);
-        self.play_tail(acted)?;
-        let header = replica.header()?.len();
-        self.arrived = arrivals(&self.disk.log, header).collect();
-        let tapped = Tapped::new(replica, self.journal.clone());
-        let second = if self.has_two_heads {
-            Some(SecondHead::new(self.place.me, self.opened(&self.disk.log)?.0))
-        } else {
-            None
-        };
-        let core = tapped.with_deeds(self.twist, second);
-        let restored = Restored { log: &self.disk.log, header, ..Restored::default() };
         let (place, local) = (self.place, self.clock.local(now));
         let options = Options { log_receipts: true, ..Options::default() };
-        let engine = Engine::open(place, options, core, restored, local)?;
-        self.process = Some(Process { engine, pending: None, wake: now });
+        let driver = if let Some(store) = &self.store {
+            let many = Sessions::open(place, options, store.restart(), local);
+            Driver::Many(Box::new(many))
+        } else {
+            let (core, header) = self.recovered(0)?;
+            let restored = Restored { log: self.log(0), header, ..Restored::default() };
+            Driver::One(Box::new(Engine::open(place, options, core, restored, local)?))
+        };
+        self.process =
+            Some(Process { driver, pending: None, requests: BTreeMap::new(), wake: now });
         self.slots.fill(SLOTS);
         Ok(())
     }
 
+    /// The core of a session as its log leaves it, and the size of the log's header.
+    pub fn recovered(&mut self, session: u32) -> Result<(Tapped, usize), Violation> {
+        let (mut replica, used) = self.opened(session, self.log(session))?;
+        let acted = self.acted(session);
+        if used < acted {
+            return Err(Violation(format!("a start keeps {used} of {acted} bytes acted on")));
+        }
+        if let Some(log) = self.disk.logs.get_mut(&session) {
+            log.truncate(used);
+        }
+        self.play_tail(session, acted)?;
+        let header = replica.header()?.len();
+        let found: Vec<Tx> = arrivals(self.log(session), header).collect();
+        self.arrived.extend(found);
+        Ok((self.tapped(session, replica)?, header))
+    }
+
+    /// A core of a session, and what it does.
+    pub fn tapped(&mut self, session: u32, replica: Replica) -> Result<Tapped, Violation> {
+        let tapped = Tapped::new(replica, self.journal(session), session);
+        let second = if self.has_two_heads {
+            let (other, _) = self.opened(session, self.log(session))?;
+            Some(SecondHead::new(self.place.me, other))
+        } else {
+            None
+        };
+        Ok(tapped.with_deeds(self.twist, second))
+    }
+
     /// A flipped bit of what was acted on has to be refused.
     fn check_rot(&self, place: f64) -> Result<(), Violation> {
-        let acted = self.journal.borrow().acted;
-        match self.opened(&self.disk.rotten(place)) {
+        let Some(session) = self.disk.logs.keys().next_back().copied() else { return Ok(()) };
+        let acted = self.acted(session);
+        match self.opened(session, &self.disk.rotten(session, place)) {
             Ok((_, used)) if used < acted => {
                 Err(Violation(format!("a rotten log is truncated: {used} of {acted} bytes")))
             }
@@ -191,13 +263,14 @@ impl Node {
 
     /// Records may be durable on which the process did not act before it ended. The start acts on
     /// them: the journal gets their turns from another core.
-    fn play_tail(&mut self, acted: usize) -> Result<(), Violation> {
-        if acted == self.disk.log.len() {
+    fn play_tail(&mut self, session: u32, acted: usize) -> Result<(), Violation> {
+        if acted == self.log(session).len() {
             return Ok(());
         }
-        let (replica, _) = self.opened(&self.disk.log[..acted])?;
-        let mut core = Tapped::new(replica, self.journal.clone());
-        for event in records(&self.disk.log, acted).filter_map(event_of) {
+        let journal = self.journal(session);
+        let (replica, _) = self.opened(session, &self.log(session)[..acted])?;
+        let mut core = Tapped::new(replica, journal, session);
+        for event in records(self.log(session), acted).filter_map(event_of) {
             core.prepare(&event)?;
             match Core::act(&mut core)? {
                 Turn::Made(_) => drop(core.sends()?),
@@ -210,7 +283,7 @@ impl Node {
     /// The process ends. What was being written is durable in part.
     pub fn end(&mut self, part: f64, until: Time) {
         if let Some(Process { pending: Some(pending), .. }) = self.process.take() {
-            self.disk.tear(pending.records(), part);
+            self.disk.tear(pending.session(), pending.records(), part);
         }
         self.incarnation += 1;
         self.down_until = self.down_until.max(until);
@@ -219,11 +292,12 @@ impl Node {
     }
 
     /// How long this write takes; none where the process ends in it.
-    pub fn write(&mut self, pending: Pending) -> Option<Duration> {
+    pub fn write(&mut self, pending: Prepared) -> Option<Duration> {
         let process = self.process.as_mut()?;
+        let (session, records) = (pending.session(), pending.records());
         match self.armed.take() {
-            Some(FaultKind::Tear(part)) => self.disk.tear(pending.records(), part),
-            Some(FaultKind::CrashAfterWrite) => self.disk.append(pending.records()),
+            Some(FaultKind::Tear(part)) => self.disk.tear(session, records, part),
+            Some(FaultKind::CrashAfterWrite) => self.disk.append(session, records),
             _ if self.disk.is_full => {}
             _ => {
                 process.pending = Some(pending);
@@ -237,9 +311,9 @@ impl Node {
     pub fn synced(&mut self) -> bool {
         let Some(process) = &mut self.process else { return false };
         let Some(pending) = process.pending.take() else { return false };
-        self.disk.append(pending.records());
+        self.disk.append(pending.session(), pending.records());
         self.arrived.extend(arrivals(pending.records(), 0));
-        process.engine.durable(pending);
+        process.driver.durable(pending);
         true
     }
 

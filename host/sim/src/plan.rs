@@ -8,6 +8,8 @@ use rand::{Rng, SeedableRng};
 use rand_chacha::ChaCha8Rng;
 use themis_engine::tx::Tx;
 
+use crate::change::Step;
+
 /// What may go wrong, at a moment in milliseconds.
 #[derive(Clone, Copy, Debug, PartialEq)]
 pub struct Fault {
@@ -44,6 +46,10 @@ pub enum FaultKind {
     Alone,
     /// The connection to the peer ends, and with it what is on its way.
     Break(u32),
+    /// The process ends at this step of the next change of session: after it, or before.
+    CrashAt(Step, bool),
+    /// A crash; the log of the session that runs is lost.
+    LoseLog,
 }
 
 /// What a faulty replica does.
@@ -75,7 +81,28 @@ pub enum Deed {
     /// Tells half of its peers of other transactions than the other half, with the smallest stamps, and
     /// sends proposals that are none.
     Split,
+    /// Lets the marker of a session arrive at its start, and tells so.
+    EarlyMarker,
+    /// Shows every second peer another key for the next session.
+    TwoKeys,
+    /// Tells those that are behind of another history.
+    FalseHistory,
 }
+
+/// What a faulty replica may do in one session.
+const DEEDS_OF_ONE: usize = 12;
+/// What it may do where sessions follow one another.
+const DEEDS_OF_MANY: [Deed; 9] = [
+    Deed::EarlyMarker,
+    Deed::TwoKeys,
+    Deed::FalseHistory,
+    Deed::Forge,
+    Deed::Half,
+    Deed::Mute,
+    Deed::Reorder,
+    Deed::Garbage,
+    Deed::Stale,
+];
 
 const BURST_CLIENT: u32 = 99;
 /// Submits to a replica that is alone.
@@ -117,6 +144,10 @@ pub struct Plan {
     pub submissions: Vec<Submission>,
     /// How long faults and submissions go on, in milliseconds.
     pub span: u32,
+    /// So many sessions at least follow one another; 0 where there is one alone.
+    pub sessions: u32,
+    /// When an operator asks all replicas to end their session.
+    pub ends: Vec<u32>,
 }
 
 /// What is left of the plan of a seed, to make a failure smaller.
@@ -134,6 +165,8 @@ pub struct Edits {
     pub burst: u32,
     /// So many others at each replica alone, at the start.
     pub spread: u32,
+    /// So many sessions that follow one another; 0: one alone.
+    pub sessions: u32,
 }
 
 impl Plan {
@@ -155,12 +188,30 @@ impl Plan {
             deeds: Vec::new(),
             submissions: Vec::new(),
             span,
+            sessions: edits.sessions,
+            ends: Vec::new(),
         };
-        plan.draw_deeds(&mut rng);
-        plan.draw_faults(&mut rng);
-        plan.draw_submissions(&mut rng);
+        if plan.is_many() {
+            // A quarter of the views has to be enough to make a marker final.
+            plan.views = rng.gen_range(44..70);
+            plan.span = rng.gen_range(1500..3500);
+            plan.draw_deeds_of_many(&mut rng);
+            plan.draw_faults(&mut rng);
+            plan.draw_faults_of_many(&mut rng);
+            plan.draw_ends(&mut rng);
+            plan.draw_traffic(&mut rng);
+        } else {
+            plan.draw_deeds(&mut rng);
+            plan.draw_faults(&mut rng);
+            plan.draw_submissions(&mut rng);
+        }
         plan.edit(edits);
         plan
+    }
+
+    /// Whether sessions follow one another.
+    pub fn is_many(&self) -> bool {
+        self.sessions > 0
     }
 
     /// Whether a replica is honest.
@@ -181,7 +232,81 @@ impl Plan {
     fn draw_deeds(&mut self, rng: &mut ChaCha8Rng) {
         if rng.gen_ratio(2, 5) {
             let count = rng.gen_range(1..3);
-            self.deeds = Deed::value_variants().choose_multiple(rng, count).copied().collect();
+            let all = &Deed::value_variants()[..DEEDS_OF_ONE];
+            self.deeds = all.choose_multiple(rng, count).copied().collect();
+        }
+    }
+
+    fn draw_deeds_of_many(&mut self, rng: &mut ChaCha8Rng) {
+        if rng.gen_ratio(1, 2) {
+            let count = rng.gen_range(1..3);
+            self.deeds = DEEDS_OF_MANY.choose_multiple(rng, count).copied().collect();
+        }
+    }
+
+    /// Crashes between the steps of changes, replicas that are away over some, and lost logs. With a
+    /// faulty replica as well, more than f could miss the keys of a session.
+    fn draw_faults_of_many(&mut self, rng: &mut ChaCha8Rng) {
+        let steps = [Step::Store, Step::Open, Step::Mark, Step::Recover];
+        for _ in 0..rng.gen_range(0..6) {
+            let step = *steps.choose(rng).unwrap_or(&Step::Store);
+            let kind = FaultKind::CrashAt(step, rng.gen());
+            let (at, replica) = (rng.gen_range(0..self.span), rng.gen_range(0..self.n));
+            self.faults.push(Fault { at, span: 20, replica, kind });
+        }
+        let is_away = rng.gen_ratio(1, 2);
+        if is_away && self.deeds.is_empty() {
+            let kinds = [FaultKind::Crash, FaultKind::Alone, FaultKind::LoseLog];
+            let kind = *kinds.choose(rng).unwrap_or(&FaultKind::Crash);
+            let (at, span) = (rng.gen_range(0..self.span / 2), rng.gen_range(500..4000));
+            self.faults.push(Fault { at, span, replica: rng.gen_range(0..self.n), kind });
+        }
+        self.faults.sort_by_key(|it| it.at);
+    }
+
+    fn draw_ends(&mut self, rng: &mut ChaCha8Rng) {
+        let mut at = 0;
+        while at < self.span {
+            at += rng.gen_range(400..1200);
+            self.ends.push(at);
+        }
+        // A replica is alone over an end. What a client submits to it meanwhile is carried over.
+        if rng.gen_ratio(2, 3) {
+            let end = *self.ends.choose(rng).unwrap_or(&at);
+            let (replica, span) = (rng.gen_range(0..self.n), rng.gen_range(400..900));
+            let (at, kind) = (end.saturating_sub(100), FaultKind::Alone);
+            self.faults.push(Fault { at, span, replica, kind });
+            self.faults.sort_by_key(|it| it.at);
+        }
+    }
+
+    /// Clients that go on for the whole span, each with ascending numbers.
+    fn draw_traffic(&mut self, rng: &mut ChaCha8Rng) {
+        let mut numbers = [0u32; 4];
+        let mut at = 0;
+        while at < self.span {
+            at += rng.gen_range(40..200);
+            let client = rng.gen_range(0..numbers.len());
+            let to = rng.gen_ratio(1, 12).then(|| rng.gen_range(0..self.n));
+            // Bursts come right before an end, so that many wait when the session is cut.
+            let is_before_end = self.ends.iter().any(|it| (at..at + 200).contains(it));
+            let is_burst = to.is_none() && is_before_end && rng.gen_ratio(1, 4);
+            let count = if is_burst { rng.gen_range(100..300) } else { rng.gen_range(1..6) };
+            let txs = (0..count).map(|_| {
+                numbers[client] += 1;
+                Tx { client: client as u32 + 1, number: numbers[client], payload: self.seed }
+            });
+            let txs = txs.collect();
+            self.submissions.push(Submission { at, txs, to });
+        }
+        self.draw_lonely(rng);
+        self.submissions.sort_by_key(|it| it.at);
+        // What a replica alone has is lost with its log.
+        let loses = |it: &Fault| it.kind == FaultKind::LoseLog;
+        let losing: Vec<u32> =
+            self.faults.iter().filter(|it| loses(it)).map(|it| it.replica).collect();
+        for it in &mut self.submissions {
+            it.to = it.to.filter(|to| !losing.contains(to));
         }
     }
 

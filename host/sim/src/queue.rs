@@ -22,8 +22,12 @@ pub enum Happening {
     },
     /// It has a new connection to a peer.
     Connected(u32),
+    /// Its operator ends the session.
+    End,
     /// Its records are durable.
     Synced,
+    /// What its engine asked for with this number is done.
+    Done(u64),
     /// A client submits to it.
     Submit(usize),
     /// A fault of the plan starts.

@@ -1,6 +1,8 @@
 //! One run of a plan, and its checks.
 
+use std::cell::RefCell;
 use std::collections::HashSet;
+use std::rc::Rc;
 use std::time::Duration;
 
 use themis::{audit, Finding, Run};
@@ -8,10 +10,13 @@ use themis_engine::tx::Tx;
 use themis_engine::Time;
 
 use crate::chain::committed;
+use crate::driver::Driver;
 use crate::keys::{public_keys, HEIGHT};
+use crate::many;
 use crate::node::{Node, Violation};
 use crate::plan::Plan;
 use crate::receipts::{is_promised, proposals};
+use crate::tapped::Journal;
 use crate::trace::{trace_of, Account};
 use crate::world::{at_ms, World};
 
@@ -37,8 +42,12 @@ const MAX_VIEW_BYTES: usize = 160 << 10;
 pub struct Report {
     /// What went wrong.
     pub violation: Option<String>,
-    /// Views that were used.
+    /// Views that were used, of the last session.
     pub views: u32,
+    /// Sessions that ran.
+    pub sessions: u32,
+    /// How often a replica took the end of a session from others, or had no part in it.
+    pub taken: u32,
     /// Transactions that became final.
     pub finals: usize,
     /// Pairs of which the second jumps over the first.
@@ -53,6 +62,10 @@ pub struct Report {
     pub took: Duration,
     /// How long after the last fault and submission all was final.
     pub late: Duration,
+    /// Transactions that were carried over, counted at each replica.
+    pub carried: usize,
+    /// The longest time without a batch, while clients submitted.
+    pub gap: Duration,
     /// Entries of journals that the proved audit read.
     pub audited: usize,
 }
@@ -79,17 +92,30 @@ fn attempt(plan: &Plan, mode: Mode, report: &mut Report) -> Result<(), Violation
     let ended = play(&mut world, mode.is_traced);
     let first = plan.honest().next().unwrap_or(0) as usize;
     report.happenings = world.queue.count();
+    report.gap = world.gap.1;
+    report.carried = honest(&world).map(carried).sum();
     report.took = world.now.since(Time::default());
     report.late = world.now.since(quiet_at(&world.plan));
     report.finals = world.nodes[first].finals.len();
     report.views =
         plan.honest().map(|it| views_of(&mut world.nodes[it as usize])).max().unwrap_or(0);
+    let stores = || world.nodes.iter().filter_map(|it| it.store.as_ref());
+    report.sessions = stores().map(|it| it.session() + 1).max().unwrap_or(1);
+    report.taken = honest(&world).map(sessions_without_part).sum();
     ended?;
-    check_idle(&mut world)?;
+    if plan.is_many() {
+        report.audited = many::check(&mut world, mode.is_audited)?;
+    } else {
+        check_idle(&mut world)?;
+    }
     check_agreement(&world)?;
-    for node in honest(&world) {
+    for replica in plan.honest() {
+        let node = &mut world.nodes[replica as usize];
         check_leaves(node)?;
-        check_bounds(node, &world.plan)?;
+        check_bounds(node, plan)?;
+    }
+    if plan.is_many() {
+        return Ok(());
     }
     check_jumps(&mut world, report)?;
     if mode.is_audited {
@@ -103,8 +129,21 @@ fn honest(world: &World) -> impl Iterator<Item = &Node> {
 }
 
 fn views_of(node: &mut Node) -> u32 {
-    let process = node.process.as_mut();
-    process.and_then(|it| it.engine.core_mut().ends().ok()).map_or(0, |(view, _)| view)
+    let engine = node.process.as_mut().and_then(|it| it.driver.engine());
+    engine.and_then(|it| it.core_mut().ends().ok()).map_or(0, |(view, _)| view)
+}
+
+fn carried(node: &Node) -> usize {
+    let ended = node.store.iter().flat_map(|it| &it.ended);
+    ended.map(|it| it.carried.len()).sum()
+}
+
+/// Sessions that have ended, and in which a replica did not come to their end by itself.
+fn sessions_without_part(node: &Node) -> u32 {
+    let Some(store) = &node.store else { return 0 };
+    let has_log = |session: &u32| node.journals.contains_key(session);
+    let without = (0..store.session()).filter(|it| !has_log(it)).count();
+    without as u32 + store.closed
 }
 
 /// The moment from which on there are no faults and submissions.
@@ -118,7 +157,10 @@ fn play(world: &mut World, is_traced: bool) -> Result<(), Violation> {
     let mut traced_at = Time::default();
     let wanted = wanted(&world.plan);
     let quiet = quiet_at(&world.plan);
-    let patience = if world.plan.is_calm() { CALM_PATIENCE } else { PATIENCE };
+    let is_many = world.plan.is_many();
+    let is_quick = world.plan.is_calm() && !is_many;
+    let patience = if is_quick { CALM_PATIENCE } else { PATIENCE };
+    let mut end_at = quiet + many::END_EVERY;
     while world.step()? {
         if is_traced && world.now > traced_at + TRACE_EVERY {
             traced_at = world.now;
@@ -127,8 +169,15 @@ fn play(world: &mut World, is_traced: bool) -> Result<(), Violation> {
         if world.now < quiet {
             continue;
         }
-        if std::mem::take(&mut world.has_new) && is_level(world, &wanted) {
+        let is_due = is_many && world.now > end_at;
+        if (std::mem::take(&mut world.has_new) || is_due) && is_level(world, &wanted) {
             return Ok(());
+        }
+        if is_due {
+            end_at = world.now + many::END_EVERY;
+            for replica in 0..world.plan.n {
+                world.end_session(replica)?;
+            }
         }
         if world.now > quiet + patience {
             return Err(stuck(world, &wanted));
@@ -145,7 +194,14 @@ fn print_state(world: &World) {
             println!("  {} is down", node.place.me);
             continue;
         };
-        let it = process.engine.status(node.clock.local(world.now));
+        if let Driver::Many(it) = &process.driver {
+            let it = it.status(node.clock.local(world.now));
+            println!(
+                "  {} {} {} {} {}",
+                node.place.me, it.session, it.stage, it.position, it.helps
+            );
+        }
+        let Some(it) = process.driver.status(node.clock.local(world.now)) else { continue };
         let counts = it.counts.iter().filter(|it| it.value > 0);
         let counts: Vec<_> = counts.map(|it| format!("{it}: {}", it.value)).collect();
         println!(
@@ -172,8 +228,10 @@ fn wanted(plan: &Plan) -> HashSet<Tx> {
 /// Whether all honest replicas run, and have the same list with all that is wanted.
 fn is_level(world: &World, wanted: &HashSet<Tx>) -> bool {
     let count = honest(world).map(|it| it.batches.len()).max().unwrap_or(0);
-    honest(world)
-        .all(|it| it.process.is_some() && it.batches.len() == count && wanted.is_subset(&it.finals))
+    (!world.plan.is_many() || many::is_level(world))
+        && honest(world).all(|it| {
+            it.process.is_some() && it.batches.len() == count && wanted.is_subset(&it.finals)
+        })
 }
 
 fn stuck(world: &mut World, wanted: &HashSet<Tx>) -> Violation {
@@ -185,7 +243,8 @@ fn stuck(world: &mut World, wanted: &HashSet<Tx>) -> Violation {
         let view = views_of(node);
         let is_up = node.process.is_some();
         text += &format!(
-            " [{replica} up={is_up} view={view} batches={} missing={missing}]",
+            " [{replica} up={is_up} session={} view={view} batches={} missing={missing}]",
+            node.store.as_ref().map_or(0, |it| it.session()),
             node.batches.len()
         );
     }
@@ -222,26 +281,30 @@ fn check_agreement(world: &World) -> Result<(), Violation> {
 }
 
 fn check_leaves(node: &Node) -> Result<(), Violation> {
-    match node.journal.borrow().reused {
-        Some(leaf) => {
-            Err(Violation(format!("replica {} seals twice with leaf {leaf}", node.place.me)))
-        }
+    let reused = |(session, journal): (&u32, &Rc<RefCell<Journal>>)| {
+        journal.borrow().reused.map(|leaf| (*session, leaf))
+    };
+    match node.journals.iter().find_map(reused) {
+        Some((session, leaf)) => Err(Violation(format!(
+            "replica {} seals twice with leaf {leaf} of session {session}",
+            node.place.me
+        ))),
         None => Ok(()),
     }
 }
 
-fn check_bounds(node: &Node, plan: &Plan) -> Result<(), Violation> {
-    let Some(process) = &node.process else { return Ok(()) };
-    let sizes = process.engine.sizes();
+fn check_bounds(node: &mut Node, plan: &Plan) -> Result<(), Violation> {
+    let log = node.disk.logs.values().map(Vec::len).max().unwrap_or(0);
+    let Some(process) = &mut node.process else { return Ok(()) };
+    let sizes = process.driver.sizes();
     let is_within = sizes.inbox <= MAX_INBOX
         && sizes.queue <= MAX_QUEUE
         && sizes.pending <= MAX_PENDING
         && sizes.given <= (plan.n - 1) * plan.views + 64
-        && node.disk.log.len() <= MAX_VIEW_BYTES * (plan.views + sizes.given) as usize;
+        && log <= MAX_VIEW_BYTES * (plan.views + sizes.given.max(plan.views)) as usize;
     if is_within {
         Ok(())
     } else {
-        let log = node.disk.log.len();
         Err(Violation(format!("replica {} holds {sizes:?}, a log of {log}", node.place.me)))
     }
 }
@@ -252,9 +315,11 @@ fn check_jumps(world: &mut World, report: &mut Report) -> Result<(), Violation> 
     let longest = world.plan.honest().max_by_key(|it| world.nodes[*it as usize].batches.len());
     let Some(longest) = longest else { return Ok(()) };
     let node = &mut world.nodes[longest as usize];
+    let journal = node.journal(0);
     let Some(process) = &mut node.process else { return Ok(()) };
-    let (_, commit) = process.engine.core_mut().ends()?;
-    let chain = committed(&node.journal.borrow(), commit);
+    let Some(engine) = process.driver.engine() else { return Ok(()) };
+    let (_, commit) = engine.core_mut().ends()?;
+    let chain = committed(&journal.borrow(), commit);
     let known = proposals((world.plan.n, world.plan.f), &chain, &node.finals);
     let jumps = world.receipts.jumps(&node.batches, |a, b| is_promised(&known, a, b));
     (report.jumps, report.common) = (jumps.len(), world.receipts.common());
@@ -271,7 +336,7 @@ fn check_jumps(world: &mut World, report: &mut Report) -> Result<(), Violation> 
 
 fn given(node: &Node) -> Option<usize> {
     let process = node.process.as_ref()?;
-    Some(process.engine.status(process.wake).given)
+    Some(process.driver.status(process.wake)?.given)
 }
 
 /// The proved audit of the run.
@@ -279,10 +344,11 @@ fn check_audit(world: &mut World) -> Result<usize, Violation> {
     let mut ends = Vec::new();
     for replica in 0..world.plan.n {
         let node = &mut world.nodes[replica as usize];
-        let core = node.process.as_mut().map(|it| it.engine.core_mut());
-        ends.push(core.map(crate::tapped::Tapped::ends).transpose()?);
+        let engine = node.process.as_mut().and_then(|it| it.driver.engine());
+        ends.push(engine.map(|it| it.core_mut().ends()).transpose()?);
     }
-    let journals: Vec<_> = world.nodes.iter().map(|it| it.journal.borrow()).collect();
+    let journals: Vec<_> = world.nodes.iter_mut().map(|it| it.journal(0)).collect();
+    let journals: Vec<_> = journals.iter().map(|it| it.borrow()).collect();
     let accounts: Vec<Option<Account>> = (0..world.plan.n)
         .map(|it| {
             let at = it as usize;
@@ -291,10 +357,11 @@ fn check_audit(world: &mut World) -> Result<usize, Violation> {
         })
         .collect();
     let entries = accounts.iter().flatten().map(|it| it.journal.entries.len()).sum();
-    let trace = trace_of(&world.plan, &accounts);
     let (n, f, views) = (world.plan.n, world.plan.f, world.plan.views);
+    let keys = public_keys(n);
+    let trace = trace_of(&world.plan, &keys, &accounts);
     let run = Run { n, f, p: 1, q: 1, views, height: HEIGHT };
-    match audit(&trace, &run, public_keys(n))?.finding {
+    match audit(&trace, &run, &keys)?.finding {
         Finding::Lawful => Ok(entries),
         other => Err(Violation(format!("the audit finds {other:?}"))),
     }
@@ -327,8 +394,8 @@ mod tests {
         }
         let until = world.now;
         world.crash(1, until);
-        let half = world.nodes[1].disk.log.len() / 2;
-        world.nodes[1].disk.log.truncate(half);
+        let half = world.nodes[1].log(0).len() / 2;
+        world.nodes[1].disk.logs.get_mut(&0).unwrap().truncate(half);
         let found = (0..1000).find_map(|_| world.step().err());
         assert!(found.is_some_and(|it| it.0.contains("bytes acted on")));
     }

@@ -141,7 +141,7 @@ mod tests {
 
     #[test]
     fn the_key_is_that_of_the_library() {
-        let it = secret(3);
+        let it = secret(3, 0);
         let (mut name, mut seed) = ([0; 16], [0; 32]);
         name.copy_from_slice(&it[..16]);
         seed.copy_from_slice(&it[16..]);

@@ -7,6 +7,7 @@ use std::rc::Rc;
 use sha2::{Digest, Sha256};
 use themis::{Error, Message, Reason, Replica};
 use themis_engine::core::{Core, Delivered, Event, Turn};
+use themis_engine::sessions::reserved::marker;
 use themis_engine::tx::Tx;
 
 use crate::parts::own_parts;
@@ -62,13 +63,15 @@ pub enum Twist {
     Reversed,
     /// Those of this client first.
     First(u32),
+    /// The marker of the session first, from the start on.
+    Marked,
 }
 
 impl Twist {
     fn applied(self, txs: &[Tx]) -> Vec<Tx> {
         let mut out = txs.to_vec();
         match self {
-            Twist::None => {}
+            Twist::None | Twist::Marked => {}
             Twist::Reversed => out.reverse(),
             Twist::First(client) => out.sort_by_key(|it| it.client != client),
         }
@@ -85,13 +88,16 @@ pub struct Tapped {
     twist: Twist,
     /// It equivocates: a deed.
     second: Option<SecondHead>,
+    session: u32,
+    /// The marker has arrived.
+    is_marked: bool,
 }
 
 impl Tapped {
     /// A replica that was opened.
-    pub fn new(replica: Replica, journal: Rc<RefCell<Journal>>) -> Tapped {
-        let prepared = VecDeque::new();
-        Tapped { replica, prepared, journal, twist: Twist::None, second: None }
+    pub fn new(replica: Replica, journal: Rc<RefCell<Journal>>, session: u32) -> Tapped {
+        let (prepared, is_marked) = (VecDeque::new(), false);
+        Tapped { replica, prepared, journal, twist: Twist::None, second: None, session, is_marked }
     }
 
     /// One that receives in another order, or equivocates.
@@ -114,7 +120,17 @@ impl Core for Tapped {
 
     fn prepare(&mut self, event: &Event) -> Result<Vec<u8>, Error> {
         let event = match event {
-            Event::Arrived(txs) => Event::Arrived(self.twist.applied(txs)),
+            Event::Arrived(txs) => {
+                let mut txs = self.twist.applied(txs);
+                let marker = marker(self.session);
+                if self.twist == Twist::Marked {
+                    txs.retain(|it| *it != marker);
+                    if !std::mem::replace(&mut self.is_marked, true) {
+                        txs.insert(0, marker);
+                    }
+                }
+                Event::Arrived(txs)
+            }
             other => other.clone(),
         };
         let record = self.replica.prepare(&event)?;

@@ -2,9 +2,9 @@
 
 use themis::Reason;
 use themis_engine::core::Event;
+use themis_engine::sessions::keys::PublicKey;
 use themis_engine::tx::{self, Tx};
 
-use crate::keys;
 use crate::plan::Plan;
 use crate::tapped::{Entry, Journal};
 
@@ -51,14 +51,14 @@ fn put_list(txs: &[Tx], out: &mut Vec<u8>) {
 }
 
 /// The trace of a run; no account of a replica says that it is faulty.
-pub fn trace_of(plan: &Plan, accounts: &[Option<Account<'_>>]) -> Vec<u8> {
+pub fn trace_of(plan: &Plan, keys: &[PublicKey], accounts: &[Option<Account<'_>>]) -> Vec<u8> {
     let entries = || accounts.iter().flatten().flat_map(|it| &it.journal.entries);
     let count = |is_it: fn(&Event) -> bool| entries().filter(|it| is_it(&it.event)).count();
     let mut out = MAGIC.to_vec();
     out.extend([plan.n as u8, plan.f as u8, 0, 1, 0, 1]);
     put_u32(plan.views as usize, &mut out);
     out.push(HEIGHT_CODE);
-    out.extend(keys::public_keys(plan.n).concat());
+    out.extend(keys.concat());
     put_u32(count(|it| matches!(it, Event::Delivered(_))), &mut out);
     put_u32(count(|it| matches!(it, Event::Tick(_))), &mut out);
     let faulty: Vec<u8> = (0..).zip(accounts).filter(|it| it.1.is_none()).map(|it| it.0).collect();

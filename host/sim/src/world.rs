@@ -5,11 +5,14 @@ use std::time::Duration;
 use bytes::Bytes;
 use rand::{Rng, SeedableRng};
 use rand_chacha::ChaCha8Rng;
-use themis_engine::frame::{Frame, HEAD_BYTES};
-use themis_engine::{Answer, Input, Output, Time};
+use themis_engine::sessions::frames::in_session;
+use themis_engine::sessions::Output;
+use themis_engine::Time;
 
+use crate::change::Request;
 use crate::clock::Clock;
 use crate::deeds::EVERY;
+use crate::driver::inner_frame;
 use crate::network::Link;
 use crate::node::{Node, Violation};
 use crate::plan::Plan;
@@ -18,7 +21,6 @@ use crate::receipts::Receipts;
 
 /// A real link drops what is above it.
 const ROOM: usize = 4 << 20;
-const RETRY_AFTER: Duration = Duration::from_millis(400);
 
 /// A cluster.
 pub struct World {
@@ -35,10 +37,12 @@ pub struct World {
     pub(crate) links: Vec<Vec<Link>>,
     pub(crate) rng: ChaCha8Rng,
     /// Which submissions each replica has answered with ok.
-    answered: Vec<Vec<bool>>,
-    tickets: u64,
+    pub(crate) answered: Vec<Vec<bool>>,
+    pub(crate) tickets: u64,
     /// A batch was taken since that was asked.
     pub has_new: bool,
+    /// When the first replica took a batch last, and its longest time without one.
+    pub gap: (Time, Duration),
 }
 
 /// A moment, in milliseconds.
@@ -71,6 +75,7 @@ impl World {
             answered: vec![vec![false; plan.submissions.len()]; plan.n as usize],
             tickets: 0,
             has_new: true,
+            gap: (Time::default(), Duration::ZERO),
             plan,
         };
         world.schedule();
@@ -86,6 +91,12 @@ impl World {
                     let at = at_ms(it.at) + late.mul_f64(self.rng.gen());
                     self.queue.put(at, replica, 0, Happening::Submit(number));
                 }
+            }
+        }
+        for at in &self.plan.ends {
+            for replica in 0..self.plan.n {
+                let late = self.rng.gen_range(0..100);
+                self.queue.put(at_ms(at + late), replica, 0, Happening::End);
             }
         }
         for (number, it) in self.plan.faults.iter().enumerate() {
@@ -104,12 +115,18 @@ impl World {
             Happening::Arrive { from, epoch, frame } => self.arrive(from, replica, epoch, frame)?,
             Happening::Connected(peer) if is_of_now => self.connected(replica, peer)?,
             Happening::Synced if is_of_now => self.synced(replica)?,
+            Happening::End => self.end_session(replica)?,
+            Happening::Done(number) if is_of_now => self.done(replica, number)?,
             Happening::Submit(number) => self.submit(replica, number)?,
             Happening::Fault(number) => self.start_fault(number),
             Happening::Heal(number) => self.heal(number)?,
             Happening::Start => self.start(replica)?,
             Happening::Deed if is_of_now => self.deed(replica)?,
-            Happening::Wake | Happening::Connected(_) | Happening::Synced | Happening::Deed => {}
+            Happening::Wake
+            | Happening::Connected(_)
+            | Happening::Synced
+            | Happening::Done(_)
+            | Happening::Deed => {}
         }
         Ok(true)
     }
@@ -144,7 +161,11 @@ impl World {
     fn connected(&mut self, replica: u32, peer: u32) -> Result<(), Violation> {
         let is_up = self.links[replica as usize][peer as usize].up_at <= self.now;
         if is_up && self.nodes[peer as usize].process.is_some() {
-            self.take(replica, Input::Connected(peer))?;
+            let node = &mut self.nodes[replica as usize];
+            let local = node.clock.local(self.now);
+            if let Some(process) = &mut node.process {
+                process.driver.connected(peer, local)?;
+            }
         }
         self.drive(replica)
     }
@@ -167,24 +188,15 @@ impl World {
         }
     }
 
-    /// Hands an input to the engine, if the process runs.
-    fn take(&mut self, replica: u32, input: Input) -> Result<(), Violation> {
-        let now = self.nodes[replica as usize].clock.local(self.now);
-        if let Some(process) = &mut self.nodes[replica as usize].process {
-            process.engine.take(input, now)?;
-        }
-        Ok(())
-    }
-
     /// Prepares and makes turns, until a write takes its time or nothing waits.
     pub(crate) fn drive(&mut self, replica: u32) -> Result<(), Violation> {
         loop {
             let node = &mut self.nodes[replica as usize];
             let local = node.clock.local(self.now);
             let Some(process) = &mut node.process else { return Ok(()) };
-            let Some(pending) = process.engine.prepare(local)? else { break };
+            let Some(pending) = process.driver.prepare(local)? else { break };
             if pending.records().is_empty() {
-                process.engine.durable(pending);
+                process.driver.durable(pending);
                 self.make_turns(replica)?;
             } else if let Some(takes) = node.write(pending) {
                 let at = self.now + takes;
@@ -199,7 +211,7 @@ impl World {
         self.flush(replica)?;
         let node = &mut self.nodes[replica as usize];
         if let Some(process) = &mut node.process {
-            let at = node.clock.global(process.engine.wake_at()).max(self.now);
+            let at = node.clock.global(process.driver.wake_at()).max(self.now);
             if at != process.wake {
                 process.wake = at;
                 self.queue.put(at, replica, node.incarnation, Happening::Wake);
@@ -220,7 +232,7 @@ impl World {
             let node = &mut self.nodes[replica as usize];
             let local = node.clock.local(self.now);
             let Some(process) = &mut node.process else { return Ok(()) };
-            if !process.engine.turn(local)? {
+            if !process.driver.turn(local)? {
                 return self.flush(replica);
             }
             self.flush(replica)?;
@@ -231,7 +243,7 @@ impl World {
 
     fn flush(&mut self, replica: u32) -> Result<(), Violation> {
         let Some(process) = &mut self.nodes[replica as usize].process else { return Ok(()) };
-        for output in process.engine.outputs() {
+        for output in process.driver.outputs() {
             match output {
                 Output::Send { to, frame } => self.send_tampered(replica, to, frame),
                 Output::Broadcast(frame) => {
@@ -243,17 +255,39 @@ impl World {
                 Output::Batch { position, txs } => {
                     self.nodes[replica as usize].take_batch(position, txs)?;
                     self.has_new = true;
+                    self.note_gap(replica);
                 }
                 Output::Freed(peer, count) => self.free(replica, peer, count)?,
                 Output::Received(_) => {}
                 Output::Noted(note) => self.receipts.note(replica, note),
+                Output::GrowKey(session) => self.ask(replica, Request::GrowKey(session)),
+                Output::Read(it) => self.ask(replica, Request::Read(it)),
+                Output::Store(it) => self.ask(replica, Request::Store(it)),
+                Output::OpenLog(it) => self.ask(replica, Request::OpenLog(it)),
+                Output::Mark(it) => self.ask(replica, Request::Mark(it)),
+                Output::Recover(it) => self.ask(replica, Request::Recover(it)),
+                Output::Retired(session) => {
+                    if let Some(store) = &mut self.nodes[replica as usize].store {
+                        store.retire(session);
+                    }
+                }
             }
         }
         Ok(())
     }
 
+    /// While clients submit, how long the first replica is without a batch.
+    fn note_gap(&mut self, replica: u32) {
+        if replica == 0 && self.now < at_ms(self.plan.span) {
+            self.gap.1 = self.gap.1.max(self.now.since(self.gap.0));
+            self.gap.0 = self.now;
+        }
+    }
+
     fn send_tampered(&mut self, from: u32, to: u32, frame: Bytes) {
+        let is_many = self.plan.is_many();
         let sent = match &mut self.nodes[from as usize].deeds {
+            Some(deeds) if is_many => deeds.send_of_many(to, frame),
             Some(deeds) => deeds.send(to, frame),
             None => Some(frame),
         };
@@ -284,13 +318,17 @@ impl World {
     }
 
     fn hand_over(&mut self, from: u32, to: u32, frame: &Bytes) -> Result<(), Violation> {
-        let Ok(frame) = Frame::decode(frame[4], frame.slice(HEAD_BYTES..)) else { return Ok(()) };
+        let is_many = self.plan.is_many();
         let node = &mut self.nodes[to as usize];
-        node.slots[from as usize] -= 1;
-        if let Some(deeds) = &mut node.deeds {
+        let local = node.clock.local(self.now);
+        let Some(process) = &mut node.process else { return Ok(()) };
+        if let (Some(deeds), Some(frame)) = (&mut node.deeds, inner_frame(frame, is_many)) {
             deeds.receive(&frame);
         }
-        self.take(to, Input::Frame { peer: from, frame, room: ROOM })
+        if process.driver.take_frame(from, frame, ROOM, local)? {
+            node.slots[from as usize] -= 1;
+        }
+        Ok(())
     }
 
     fn free(&mut self, replica: u32, peer: u32, count: u32) -> Result<(), Violation> {
@@ -311,46 +349,20 @@ impl World {
             return Ok(());
         };
         let local = node.clock.local(self.now);
-        for (to, frame) in deeds.act(&mut process.engine, local, &mut self.rng)? {
+        let session = node.store.as_ref().map(crate::store::Durable::session);
+        let sends = match process.driver.engine() {
+            Some(engine) => deeds.act(engine, local, &mut self.rng)?,
+            None => Vec::new(),
+        };
+        for (to, frame) in sends {
+            let frame = match session {
+                Some(session) => in_session(session, &frame),
+                None => frame,
+            };
             self.send(replica, to, frame);
         }
         let incarnation = self.nodes[replica as usize].incarnation;
         self.queue.put(self.now + EVERY, replica, incarnation, Happening::Deed);
         self.drive(replica)
-    }
-
-    // ---- clients
-
-    /// A client submits, and again later where no ok came.
-    fn submit(&mut self, replica: u32, number: usize) -> Result<(), Violation> {
-        if self.answered[replica as usize][number] {
-            return Ok(());
-        }
-        self.queue.put(self.now + RETRY_AFTER, replica, 0, Happening::Submit(number));
-        let txs = self.plan.submissions[number].txs.clone();
-        let node = &mut self.nodes[replica as usize];
-        let waits = node.tickets.values().any(|it| *it == number);
-        if node.process.is_none() || waits {
-            return Ok(());
-        }
-        self.tickets += 1;
-        let ticket = self.tickets;
-        node.tickets.insert(ticket, number);
-        self.take(replica, Input::Submit { ticket, txs })?;
-        self.drive(replica)
-    }
-
-    /// A client that hears `ok` relies on it.
-    fn answer(&mut self, replica: u32, ticket: u64, answer: Answer) -> Result<(), Violation> {
-        let node = &mut self.nodes[replica as usize];
-        let number = node.tickets.remove(&ticket);
-        let (Some(number), Answer::Ok { .. }) = (number, answer) else { return Ok(()) };
-        self.answered[replica as usize][number] = true;
-        match node.unsafe_one(&self.plan.submissions[number].txs) {
-            Some(tx) if self.plan.is_honest(replica) => {
-                Err(Violation(format!("replica {replica} answers ok, and {tx:?} is not durable")))
-            }
-            Some(_) | None => Ok(()),
-        }
     }
 }

@@ -67,6 +67,8 @@ pub struct Intake {
     pub own: Own,
     /// What was received since the last call of `take_received`.
     received: Vec<Tx>,
+    /// The session ends.
+    is_ending: bool,
     /// Only where a test wants them.
     notes: Option<Vec<Note>>,
 }
@@ -87,6 +89,7 @@ impl Intake {
             is_open: place.quorum() <= 1,
             own: Own::default(),
             received: Vec::new(),
+            is_ending: false,
             notes: is_noted.then(Vec::new),
         }
     }
@@ -124,6 +127,11 @@ impl Intake {
     /// Whether nothing more arrives in this session, but for what a block proposes.
     pub fn is_full(&self) -> bool {
         self.arrived >= MAX_ARRIVED - MAX_NAMED
+    }
+
+    /// The session ends: from now on only what a block proposes arrives.
+    pub fn end(&mut self) {
+        self.is_ending = true;
     }
 
     // ---- what comes
@@ -234,6 +242,19 @@ impl Intake {
         Ok(())
     }
 
+    /// What was received and has not arrived, in its order.
+    pub fn waiting(&self, desk: &mut impl Desk) -> Result<Vec<Tx>, Error> {
+        let mut out = Vec::new();
+        for Receipt { tx, .. } in desk.receipts(0, self.held.all)? {
+            if desk.standing(&tx)? == Standing::Waiting {
+                out.push(tx);
+            }
+        }
+        let early = self.early.iter().filter(|(source, _)| *source == self.place.me);
+        out.extend(early.flat_map(|(_, receipts)| receipts).map(|it| it.tx));
+        Ok(out)
+    }
+
     // ---- what is restored, and what leaves
 
     /// Transactions that arrived before a restart. Call it after `finalised`.
@@ -241,6 +262,15 @@ impl Intake {
         self.arrived += txs.len();
         for tx in txs {
             desk.restore(tx)?;
+        }
+        Ok(())
+    }
+
+    /// Transactions that the host lets arrive by itself.
+    pub fn brought(&mut self, desk: &mut impl Desk, txs: &[Tx]) -> Result<(), Error> {
+        if !txs.is_empty() {
+            self.arrived += txs.len();
+            self.held = desk.held()?;
         }
         Ok(())
     }
@@ -318,7 +348,7 @@ impl Intake {
         if !self.is_open || !has_room || !std::mem::take(&mut self.is_stale) {
             return Ok(Vec::new());
         }
-        let is_full = self.is_full();
+        let is_full = self.is_full() || self.is_ending;
         let Arrivals { txs, given } = self.receiving(desk, |desk| {
             if is_full {
                 Ok(Arrivals { txs: desk.arrive_proposed()?, given: 0 })

@@ -34,6 +34,7 @@ pub enum Call {
 }
 
 /// A desk that notes its calls.
+#[derive(Debug)]
 pub struct PlayedDesk {
     /// The calls that change it.
     pub calls: Vec<Call>,

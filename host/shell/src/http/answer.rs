@@ -61,6 +61,8 @@ pub enum Refusal {
     TooManyStreams,
     /// The engine does not answer.
     NoEngine,
+    /// The store can't be read.
+    NoStore,
     /// Not all transactions became durable in time.
     NotDurable,
 }
@@ -95,6 +97,9 @@ impl Refusal {
             }
             Refusal::NoEngine => {
                 (StatusCode::SERVICE_UNAVAILABLE, "stuck", "the engine does not answer")
+            }
+            Refusal::NoStore => {
+                (StatusCode::INTERNAL_SERVER_ERROR, "store", "the store can't be read")
             }
             Refusal::NotDurable => (
                 StatusCode::GATEWAY_TIMEOUT,

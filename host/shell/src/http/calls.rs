@@ -50,7 +50,7 @@ async fn answer_or_refusal(visit: &Visit, request: Request<Body>) -> Result<Answ
         Call::Find(text) => transactions::find(site, text).await,
         Call::Batches => {
             let (from, most) = (query.number("from", 0)?, query.number("limit", 100)?);
-            Ok(follow::page(site, from, most))
+            follow::page(site, from, most).await
         }
         Call::Follow => {
             let from = next_of(request.headers())?;

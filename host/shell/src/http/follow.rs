@@ -3,7 +3,7 @@
 use hyper::StatusCode;
 use serde_json::json;
 
-use super::answer::{text_of_json, Answer};
+use super::answer::{text_of_json, Answer, Refusal};
 use super::events::{Ended, Events};
 use super::site::Site;
 use super::Visit;
@@ -16,8 +16,8 @@ const MAX_PAGE: usize = 1 << 18;
 const MAX_EVENTS: usize = 16;
 
 /// Some batches from a position on.
-pub fn page(site: &Site, from: usize, most: usize) -> Answer {
-    let lines = site.lines(from, most.min(MAX_BATCHES));
+pub async fn page(site: &Site, from: usize, most: usize) -> Result<Answer, Refusal> {
+    let lines = site.lines(from, most.min(MAX_BATCHES)).await.map_err(|_| Refusal::NoStore)?;
     let mut size = 0;
     let mut batches = Vec::new();
     for (at, line) in (from..).zip(&lines) {
@@ -28,13 +28,10 @@ pub fn page(site: &Site, from: usize, most: usize) -> Answer {
         }
         batches.push(batch);
     }
-    let text = format!(
-        "{{\"session\":{},\"next\":{},\"batches\":[{}]}}",
-        site.session,
-        from.saturating_add(batches.len()),
-        batches.join(",")
-    );
-    text_of_json(StatusCode::OK, text)
+    let session = site.session.map_or_else(String::new, |it| format!("\"session\":{it},"));
+    let next = from.saturating_add(batches.len());
+    let text = format!("{{{session}\"next\":{next},\"batches\":[{}]}}", batches.join(","));
+    Ok(text_of_json(StatusCode::OK, text))
 }
 
 /// All batches from a position on, for ever.
@@ -48,7 +45,7 @@ async fn send_all(site: &Site, mut at: usize, mut events: Events) -> Result<(), 
     let mut more = site.watch();
     loop {
         more.borrow_and_update();
-        let lines = site.lines(at, MAX_EVENTS);
+        let lines = site.lines(at, MAX_EVENTS).await.map_err(|_| Ended)?;
         if lines.is_empty() {
             events.wait(Box::pin(more.changed())).await?;
             continue;

@@ -1,5 +1,6 @@
 //! What all connections share: the way to the engine, the final batches, and the live feed.
 
+use std::io;
 use std::sync::Arc;
 use std::time::Duration;
 
@@ -18,13 +19,14 @@ const ANSWER_WITHIN: Duration = Duration::from_secs(5);
 pub struct Site {
     pub(super) inbox: Inbox,
     batches: Arc<Batches>,
-    pub(super) session: u32,
+    /// The session, unless they follow one another.
+    pub(super) session: Option<u32>,
     pub(super) feed: Arc<Feed>,
 }
 
 impl Site {
     /// A site without clients. Call it within tokio, as it starts the live feed.
-    pub fn new(inbox: Inbox, batches: Arc<Batches>, session: u32) -> Arc<Site> {
+    pub fn new(inbox: Inbox, batches: Arc<Batches>, session: Option<u32>) -> Arc<Site> {
         let feed = Feed::start(inbox.clone());
         Arc::new(Site { inbox, batches, session, feed })
     }
@@ -39,8 +41,8 @@ impl Site {
     }
 
     /// Some final batches from a position on, each as a line of the line protocol.
-    pub(super) fn lines(&self, from: usize, most: usize) -> Vec<Arc<str>> {
-        self.batches.from(from, most)
+    pub(super) async fn lines(&self, from: usize, most: usize) -> io::Result<Vec<Arc<str>>> {
+        self.batches.from(from, most).await
     }
 
     /// Changes with each batch.

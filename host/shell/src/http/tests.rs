@@ -104,7 +104,7 @@ impl Port {
         let (inbox, requests) = Inbox::new();
         let (played, batches) = (Arc::new(played), Arc::new(Batches::new()));
         tokio::spawn(played.clone().run(requests));
-        let site = Site::new(inbox, batches.clone(), 3);
+        let site = Site::new(inbox, batches.clone(), Some(3));
         Port { played, batches, site, connections: Connections::new(), who: Identity::Client(1) }
     }
 

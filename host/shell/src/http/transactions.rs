@@ -15,6 +15,7 @@ use super::body;
 use super::site::Site;
 use super::Visit;
 use crate::input::{self, Found, Inbox};
+use crate::refusal::cause_of;
 
 /// A burst of all that may wait is durable earlier.
 const DURABLE_WITHIN: Duration = Duration::from_secs(60);
@@ -42,6 +43,7 @@ pub async fn submit(visit: &Visit, request: Request<Body>) -> Result<Answer, Ref
         Outcome::Busy => Err(Refusal::Busy),
         Outcome::Closed => Err(Refusal::Closed),
         Outcome::Over => Err(Refusal::Over),
+        Outcome::Refused(tx, why) => Err(Refusal::Bad(cause_of(&tx, why))),
     }
 }
 

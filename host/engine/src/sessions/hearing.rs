@@ -1,0 +1,170 @@
+//! What peers send, by its session, and what a replica does that others have left behind.
+
+use std::time::Duration;
+
+use themis::{Error, Receipt};
+
+use crate::core::Core;
+use crate::engine;
+use crate::frame::Frame;
+use crate::sessions::behind::{Asked, Behind};
+use crate::sessions::frames::{AskHistory, HistoryPart, SessionFrame};
+use crate::sessions::keys::announcement;
+use crate::sessions::service::{Sessions, Stage};
+use crate::sessions::{Output, Read};
+use crate::time::Time;
+
+/// Without a batch or a commit for so long, while others are in a later session, their history is
+/// asked for.
+const BEHIND_AFTER: Duration = Duration::from_secs(1);
+/// How often a replica without part in a session announces its next key.
+const ANNOUNCE_EVERY: Duration = Duration::from_millis(500);
+
+impl<C: Core> Sessions<C> {
+    pub(super) fn hear(
+        &mut self,
+        peer: u32,
+        frame: SessionFrame,
+        room: usize,
+        now: Time,
+    ) -> Result<(), Error> {
+        match frame {
+            SessionFrame::In { session, frame } => {
+                self.peers.hear(peer, session);
+                return self.hear_in(session, peer, frame, room, now);
+            }
+            SessionFrame::Ask(ask) => self.hear_ask(peer, ask, now),
+            SessionFrame::Part(part) => self.hear_part(peer, part, now)?,
+        }
+        self.put(Output::Freed(peer, 1));
+        Ok(())
+    }
+
+    /// A frame of one session goes to its engine, or waits for it.
+    fn hear_in(
+        &mut self,
+        session: u32,
+        peer: u32,
+        frame: Frame,
+        room: usize,
+        now: Time,
+    ) -> Result<(), Error> {
+        let is_receipts = matches!(frame, Frame::Receipts { .. });
+        if let Stage::Running(engine) = &mut self.stage {
+            if self.history.session == session {
+                if self.met >> peer & 1 == 0 {
+                    // What it was told before it was in the session is lost.
+                    self.met |= 1 << peer;
+                    engine.take(engine::Input::Connected(peer), now)?;
+                }
+                return engine.take(engine::Input::Frame { peer, frame, room }, now);
+            }
+        }
+        if let Some(old) = self.old.as_mut().filter(|it| it.session == session && !is_receipts) {
+            return old.engine.take(engine::Input::Frame { peer, frame, room }, now);
+        }
+        let mut freed = 1;
+        if self.awaited() == Some(session) {
+            freed = self.early.put(peer, session, frame, room);
+        }
+        if freed > 0 {
+            self.put(Output::Freed(peer, freed));
+        }
+        Ok(())
+    }
+
+    /// The session whose frames wait until it runs here.
+    fn awaited(&self) -> Option<u32> {
+        match self.stage {
+            Stage::Running(_) | Stage::Storing => Some(self.history.session + 1),
+            Stage::Recovering | Stage::Opening | Stage::Marking(_) => Some(self.history.session),
+            Stage::Out => None,
+        }
+    }
+
+    /// Frames that came before the session ran here.
+    pub(super) fn hear_early(&mut self, now: Time) -> Result<(), Error> {
+        let session = self.history.session;
+        for (peer, frames, others) in self.early.take(session) {
+            if others > 0 {
+                self.put(Output::Freed(peer, others));
+            }
+            for (frame, room) in frames {
+                self.hear_in(session, peer, frame, room, now)?;
+            }
+        }
+        Ok(())
+    }
+
+    // ---- histories
+
+    /// A peer asks how a session ended here. The answer comes from the store.
+    fn hear_ask(&mut self, peer: u32, ask: AskHistory, now: Time) {
+        let may_ask = self.asks[peer as usize].take(1.0, now);
+        if may_ask && ask.session < self.history.session {
+            let AskHistory { session, from, wants_batches } = ask;
+            self.put(Output::Read(Read { peer, session, from, wants_batches }));
+        }
+    }
+
+    fn hear_part(&mut self, peer: u32, part: HistoryPart, now: Time) -> Result<(), Error> {
+        let Some(behind) = &mut self.behind else { return Ok(()) };
+        let (asked, taken) = behind.take(peer, part, now);
+        self.ask(asked);
+        let Some(taken) = taken else { return Ok(()) };
+        if self.is_idle(self.history.session) {
+            self.take_history(taken)
+        } else {
+            // Its turns are made first: what they logged has arrived.
+            self.behind = None;
+            Ok(())
+        }
+    }
+
+    fn ask(&mut self, asked: impl IntoIterator<Item = Asked>) {
+        for (to, ask) in asked {
+            self.put(Output::Send { to, frame: SessionFrame::Ask(ask).encode() });
+        }
+    }
+
+    /// Asks for the end of the session, where others are in a later one and it does not get on here.
+    pub(super) fn catch_up(&mut self, now: Time) -> Result<(), Error> {
+        let session = self.history.session;
+        let is_stuck = match &self.stage {
+            Stage::Running(engine) => {
+                let progress = engine.progress();
+                if progress != self.progress {
+                    (self.progress, self.progress_at) = (progress, now);
+                }
+                now.since(self.progress_at) > BEHIND_AFTER
+            }
+            Stage::Out => true,
+            Stage::Recovering | Stage::Storing | Stage::Opening | Stage::Marking(_) => false,
+        };
+        let ahead: Vec<u32> = self.peers.after(session).collect();
+        if !is_stuck || ahead.len() <= self.place.f as usize {
+            self.behind = None;
+            return Ok(());
+        }
+        let (first, digest, f) = (self.history.position, self.history.digest, self.place.f);
+        let behind = self.behind.get_or_insert_with(|| Behind::new(session, first, digest, f));
+        let asked = behind.step(&ahead, now);
+        self.ask(asked);
+        Ok(())
+    }
+
+    /// A replica without part in the session announces its next key by receipts alone: its peers let
+    /// them arrive.
+    pub(super) fn announce_from_outside(&mut self, now: Time) {
+        let (Stage::Out, Some((of, key))) = (&self.stage, self.own_key) else { return };
+        let session = self.history.session;
+        if of != session + 1 || now.since(self.announced_at) < ANNOUNCE_EVERY {
+            return;
+        }
+        self.announced_at = now;
+        let txs = announcement(self.place.me, of, &key);
+        let receipts = txs.into_iter().map(|tx| Receipt { tx, stamp: 1 }).collect();
+        let frame = Frame::Receipts { clock: 0, receipts };
+        self.put(Output::Broadcast(SessionFrame::In { session, frame }.encode()));
+    }
+}

@@ -1,0 +1,254 @@
+//! What an engine knows of the session that it runs, where sessions follow one another: where it is
+//! cut, how the transactions of the service itself arrive, and which numbers of clients are taken.
+
+use std::collections::BTreeMap;
+use std::time::Duration;
+
+use themis::{Error, Receipt, Standing, Tx};
+
+use crate::core::Desk;
+use crate::sessions::history::History;
+use crate::sessions::keys::{announced, announcement, AgreedKeys, PublicKey, PublicKeys, PARTS};
+use crate::sessions::reserved::{is_reserved, marker};
+use crate::setting::Place;
+use crate::time::Time;
+use crate::window::{Check, Windows};
+
+/// Once the session may end, for so long the keys of all replicas are waited for. Then those of a
+/// quorum are enough.
+const KEY_PATIENCE: Duration = Duration::from_secs(5);
+/// Of the transactions that may arrive in a session; the session ends above three quarters of them.
+pub const MAX_TAKEN: usize = 61_440;
+
+/// One session of many.
+#[derive(Clone, Debug)]
+pub struct Session {
+    number: u32,
+    place: Place,
+    marker: Tx,
+    /// The final batches, up to the one with the marker.
+    batches: Vec<Vec<Tx>>,
+    is_cut: bool,
+    /// What has arrived, in its order.
+    arrived: Vec<Tx>,
+    windows: Windows,
+    agreed: AgreedKeys,
+    /// Transactions of the service that are to arrive.
+    direct: Vec<Tx>,
+    /// Of each replica, which parts of its next key it has reported.
+    reported: Vec<[bool; PARTS]>,
+    /// Receipts of the service's transactions, by peer, until the transaction is received here.
+    heard: BTreeMap<Tx, Vec<(u32, u64)>>,
+    /// Which peers have reported that they received the marker: bit i for replica i.
+    marked_by: u16,
+    is_end_wanted: bool,
+    due_since: Option<Time>,
+}
+
+/// How far a session is used up.
+#[derive(Clone, Copy, Debug)]
+pub struct Used {
+    /// The view of the committed block.
+    pub commit: u32,
+    /// Transactions that arrived.
+    pub arrived: usize,
+}
+
+impl Session {
+    /// The session that follows what a replica has. `known` is any public key.
+    pub fn new(place: Place, history: &History, known: &PublicKey) -> Session {
+        let number = history.session;
+        Session {
+            number,
+            place,
+            marker: marker(number),
+            batches: Vec::new(),
+            is_cut: false,
+            arrived: Vec::new(),
+            windows: history.windows.clone(),
+            agreed: AgreedKeys::new(place.n, number + 1, known),
+            direct: Vec::new(),
+            reported: vec![[false; PARTS]; place.n as usize],
+            heard: BTreeMap::new(),
+            marked_by: 0,
+            is_end_wanted: false,
+            due_since: None,
+        }
+    }
+
+    /// Its number.
+    pub fn number(&self) -> u32 {
+        self.number
+    }
+
+    // ---- what is final
+
+    /// Takes the next final batch. It is the last one if it holds the marker.
+    pub fn take_batch(&mut self, txs: &[Tx]) {
+        self.is_cut = txs.contains(&self.marker);
+        self.agreed.take(txs);
+        for tx in txs {
+            self.windows.settle(tx);
+        }
+        self.batches.push(txs.to_vec());
+    }
+
+    /// Whether the batch with the marker is final. What comes after it is void.
+    pub fn is_cut(&self) -> bool {
+        self.is_cut
+    }
+
+    /// The final batches.
+    pub fn batches(&self) -> &[Vec<Tx>] {
+        &self.batches
+    }
+
+    /// The keys of the next session that are agreed.
+    pub fn next_keys(&self) -> PublicKeys {
+        self.agreed.keys()
+    }
+
+    /// Whether a number of a client may be taken.
+    pub fn check(&self, tx: &Tx) -> Check {
+        if is_reserved(tx.client) {
+            return Check::Reserved;
+        }
+        self.windows.check(tx)
+    }
+
+    // ---- what arrives
+
+    /// These transactions have arrived.
+    pub fn has_arrived(&mut self, txs: &[Tx]) {
+        self.arrived.extend_from_slice(txs);
+    }
+
+    /// What has arrived, in its order.
+    pub fn arrived(&self) -> &[Tx] {
+        &self.arrived
+    }
+
+    /// The operator wants the session to end.
+    pub fn want_end(&mut self) {
+        self.is_end_wanted = true;
+    }
+
+    /// The own public key of the next session is to be announced.
+    pub fn announce(&mut self, key: &PublicKey) {
+        let txs = announcement(self.place.me, self.number + 1, key);
+        self.direct.extend(txs);
+    }
+
+    /// The receipts of a peer that go to the library. Those of the service's own transactions are
+    /// taken apart: a part of a key only from its replica itself, and the marker from no peer alone.
+    /// What is new here is taken only if its client's window allows it.
+    pub fn sift(
+        &mut self,
+        desk: &mut impl Desk,
+        peer: u32,
+        receipts: Vec<Receipt>,
+    ) -> Result<Vec<Receipt>, Error> {
+        let mut out = Vec::with_capacity(receipts.len());
+        for it in receipts {
+            if is_reserved(it.tx.client) {
+                self.hear_service(peer, it);
+            } else if self.windows.check(&it.tx) == Check::New
+                || desk.standing(&it.tx)? != Standing::Unknown
+            {
+                out.push(it);
+            }
+        }
+        Ok(out)
+    }
+
+    fn hear_service(&mut self, peer: u32, it: Receipt) {
+        if it.tx == self.marker {
+            self.marked_by |= 1 << peer;
+        } else if let Some((replica, part)) = announced(&it.tx, self.number + 1) {
+            let Some(parts) = self.reported.get_mut(replica as usize) else { return };
+            if replica == peer && !std::mem::replace(&mut parts[part], true) {
+                self.direct.push(it.tx);
+            }
+        } else {
+            return;
+        }
+        self.keep_stamp(peer, it);
+    }
+
+    /// A stamp of a transaction that is not received here yet. An honest peer reports few.
+    fn keep_stamp(&mut self, peer: u32, it: Receipt) {
+        let of_peer = self.heard.values().flatten().filter(|(by, _)| *by == peer).count();
+        if of_peer > PARTS * self.place.n as usize {
+            return;
+        }
+        let stamps = self.heard.entry(it.tx).or_default();
+        if stamps.iter().all(|(by, _)| *by != peer) {
+            stamps.push((peer, it.stamp));
+        }
+    }
+
+    /// Transactions of the service that arrive now, past what else waits.
+    pub fn arrive(
+        &mut self,
+        desk: &mut impl Desk,
+        used: Used,
+        now: Time,
+    ) -> Result<Vec<Tx>, Error> {
+        let mut out = Vec::new();
+        if self.is_ending(desk)? {
+            self.direct.clear();
+        } else if self.is_due(used, now) {
+            self.direct.push(self.marker);
+        }
+        for tx in std::mem::take(&mut self.direct) {
+            // What a block has named arrives with its block.
+            if desk.standing(&tx)? == Standing::Unknown {
+                desk.restore(&tx)?;
+                out.push(tx);
+            }
+        }
+        self.pass_stamps(desk)?;
+        Ok(out)
+    }
+
+    /// Stamps of what is received by now go to the library.
+    fn pass_stamps(&mut self, desk: &mut impl Desk) -> Result<(), Error> {
+        for (tx, stamps) in std::mem::take(&mut self.heard) {
+            if desk.standing(&tx)? == Standing::Unknown {
+                self.heard.insert(tx, stamps);
+                continue;
+            }
+            for (peer, stamp) in stamps {
+                desk.hear(peer, &Receipt { tx, stamp })?;
+            }
+        }
+        Ok(())
+    }
+
+    /// Whether the marker has arrived. Then nothing arrives any more but what blocks propose.
+    pub fn is_ending(&self, desk: &mut impl Desk) -> Result<bool, Error> {
+        let standing = desk.standing(&self.marker)?;
+        Ok(self.is_cut || matches!(standing, Standing::Arrived | Standing::Final))
+    }
+
+    /// Whether the marker is to arrive: the session is used up by half, or its operator wants that,
+    /// and enough keys are agreed; or more than f peers have received it.
+    fn is_due(&mut self, used: Used, now: Time) -> bool {
+        let Place { n, f, views, .. } = self.place;
+        if self.marked_by.count_ones() > f {
+            return true;
+        }
+        let is_used = used.commit > views / 2 || used.arrived > MAX_TAKEN / 4 * 3;
+        if !is_used && !self.is_end_wanted {
+            return false;
+        }
+        let since = *self.due_since.get_or_insert(now);
+        let is_late = now.since(since) > KEY_PATIENCE || used.commit > views / 4 * 3;
+        let count = self.agreed.count();
+        count == n || is_late && count >= self.place.quorum()
+    }
+}
+
+#[cfg(test)]
+#[path = "running_tests.rs"]
+mod tests;

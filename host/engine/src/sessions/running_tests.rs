@@ -1,0 +1,137 @@
+use super::*;
+use crate::intake::played::PlayedDesk;
+use crate::sessions::reserved::announcer;
+
+const PLACE: Place = Place { me: 0, n: 5, f: 1, views: 100 };
+const KEY: PublicKey = [9; 60];
+const NOW: Time = Time::from_nanos(0);
+const FRESH: Used = Used { commit: 10, arrived: 0 };
+const HALF: Used = Used { commit: 51, arrived: 0 };
+
+fn session() -> Session {
+    let history = History { session: 3, ..History::new(vec![Some(KEY); 5]) };
+    Session::new(PLACE, &history, &KEY)
+}
+
+fn agree(it: &mut Session, replicas: std::ops::Range<u32>) {
+    replicas.for_each(|replica| it.take_batch(&announcement(replica, 4, &KEY)));
+}
+
+fn receipt(tx: Tx, stamp: u64) -> Receipt {
+    Receipt { tx, stamp }
+}
+
+fn tx(number: u32) -> Tx {
+    Tx { client: 1, number, payload: 0 }
+}
+
+#[test]
+fn the_marker_arrives_once_the_session_is_used_up_by_half_and_all_keys_are_agreed() {
+    let (mut it, mut desk) = (session(), PlayedDesk::default());
+    agree(&mut it, 0..4);
+    assert!(it.arrive(&mut desk, HALF, NOW).unwrap().is_empty());
+    agree(&mut it, 4..5);
+    assert!(it.arrive(&mut desk, FRESH, NOW).unwrap().is_empty());
+    assert!(!it.is_ending(&mut desk).unwrap());
+    assert_eq!(it.arrive(&mut desk, HALF, NOW).unwrap(), [marker(3)]);
+    assert!(it.is_ending(&mut desk).unwrap());
+    assert!(it.arrive(&mut desk, HALF, NOW).unwrap().is_empty()); // once
+}
+
+#[test]
+fn it_also_comes_with_many_transactions_or_by_the_operator() {
+    let many = Used { commit: 10, arrived: MAX_TAKEN / 4 * 3 + 1 };
+    let (mut it, mut desk) = (session(), PlayedDesk::default());
+    agree(&mut it, 0..5);
+    assert_eq!(it.clone().arrive(&mut desk, many, NOW).unwrap(), [marker(3)]);
+    it.want_end();
+    let mut desk = PlayedDesk::default();
+    assert_eq!(it.arrive(&mut desk, FRESH, NOW).unwrap(), [marker(3)]);
+}
+
+#[test]
+fn the_keys_of_a_quorum_are_enough_after_a_while() {
+    let mut desk = PlayedDesk::default();
+    let (mut it, mut few) = (session(), session());
+    agree(&mut it, 0..4);
+    agree(&mut few, 0..3);
+    for one in [&mut it, &mut few] {
+        assert!(one.arrive(&mut desk, HALF, NOW).unwrap().is_empty());
+    }
+    let later = NOW + KEY_PATIENCE * 2;
+    assert!(few.arrive(&mut desk, HALF, later).unwrap().is_empty());
+    assert_eq!(it.clone().arrive(&mut desk, HALF, later).unwrap(), [marker(3)]);
+    let late = Used { commit: 76, arrived: 0 };
+    let mut desk = PlayedDesk::default();
+    assert_eq!(it.arrive(&mut desk, late, NOW).unwrap(), [marker(3)]);
+}
+
+#[test]
+fn it_comes_on_the_word_of_more_than_f_peers_and_not_of_one() {
+    let (mut it, mut desk) = (session(), PlayedDesk::default());
+    let other = receipt(marker(2), 1);
+    for peer in [1, 1, 1] {
+        let heard = vec![receipt(marker(3), 7), other];
+        assert!(it.sift(&mut desk, peer, heard).unwrap().is_empty());
+    }
+    assert!(it.sift(&mut desk, 2, vec![other]).unwrap().is_empty());
+    assert!(it.arrive(&mut desk, FRESH, NOW).unwrap().is_empty());
+    it.sift(&mut desk, 2, vec![receipt(marker(3), 8)]).unwrap();
+    assert_eq!(it.arrive(&mut desk, FRESH, NOW).unwrap(), [marker(3)]);
+    let heard = |peer| crate::intake::played::Call::Hear(peer, marker(3));
+    assert!(desk.calls.contains(&heard(1)) && desk.calls.contains(&heard(2)));
+}
+
+#[test]
+fn a_part_of_a_key_is_taken_from_its_replica_alone_and_once() {
+    let (mut it, mut desk) = (session(), PlayedDesk::default());
+    let part = announcement(2, 4, &KEY)[0];
+    let other = Tx { payload: 1, ..part };
+    let of_next = announcement(2, 5, &KEY)[0];
+    it.sift(&mut desk, 3, vec![receipt(part, 1)]).unwrap();
+    assert!(it.arrive(&mut desk, FRESH, NOW).unwrap().is_empty());
+    it.sift(&mut desk, 2, vec![receipt(of_next, 1), receipt(part, 2), receipt(other, 3)]).unwrap();
+    assert_eq!(it.arrive(&mut desk, FRESH, NOW).unwrap(), [part]);
+    assert_eq!(desk.standing(&other).unwrap(), Standing::Unknown);
+}
+
+#[test]
+fn one_peer_keeps_few_stamps() {
+    let (mut it, mut desk) = (session(), PlayedDesk::default());
+    let txs = (0..1000).map(|payload| Tx { client: announcer(2), number: 32, payload });
+    it.sift(&mut desk, 3, txs.map(|tx| receipt(tx, 1)).collect()).unwrap();
+    assert_eq!(it.heard.len(), PARTS * 5 + 1);
+}
+
+#[test]
+fn the_own_key_is_announced_unless_the_session_ends() {
+    let (mut it, mut desk) = (session(), PlayedDesk::default());
+    it.announce(&KEY);
+    assert_eq!(it.arrive(&mut desk, FRESH, NOW).unwrap(), announcement(0, 4, &KEY));
+    let (mut it, mut desk) = (session(), PlayedDesk::default());
+    desk.restore(&marker(3)).unwrap();
+    it.announce(&KEY);
+    assert!(it.arrive(&mut desk, FRESH, NOW).unwrap().is_empty());
+}
+
+#[test]
+fn what_a_window_refuses_is_not_heard() {
+    let (mut it, mut desk) = (session(), PlayedDesk::default());
+    it.take_batch(&[tx(1)]);
+    let heard = vec![receipt(tx(1), 1), receipt(tx(2), 2), receipt(tx(5000), 3)];
+    assert_eq!(it.sift(&mut desk, 1, heard).unwrap(), [receipt(tx(2), 2)]);
+    desk.restore(&tx(5000)).unwrap(); // what is known here gets its stamps
+    assert_eq!(it.sift(&mut desk, 1, vec![receipt(tx(5000), 3)]).unwrap().len(), 1);
+    assert_eq!(it.check(&marker(3)), Check::Reserved);
+    assert_eq!((it.check(&tx(1)), it.check(&tx(2))), (Check::BelowWindow, Check::New));
+}
+
+#[test]
+fn the_batch_with_the_marker_is_the_last() {
+    let mut it = session();
+    it.take_batch(&[tx(1), marker(2)]);
+    assert!(!it.is_cut());
+    it.take_batch(&[tx(2), marker(3)]);
+    assert!(it.is_cut());
+    assert_eq!(it.batches().len(), 2);
+}

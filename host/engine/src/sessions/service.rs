@@ -1,0 +1,357 @@
+//! The state of a replica over sessions, and what goes in and out.
+
+use std::sync::Arc;
+use std::time::Duration;
+
+use themis::{Error, Tx};
+
+use crate::clients::{Answer, Clients, Ticket};
+use crate::core::Core;
+use crate::engine::{self, Engine};
+use crate::sessions::behind::Behind;
+use crate::sessions::frames::in_session;
+use crate::sessions::history::{Ended, History, Restart};
+use crate::sessions::keys::{PublicKey, PublicKeys};
+use crate::sessions::old::Old;
+use crate::sessions::peers::{EarlyFrames, PeerSessions};
+use crate::sessions::requests::{OpenLog, Recover};
+use crate::sessions::{Found, Group, Input, Output};
+use crate::setting::{Options, Place};
+use crate::time::Time;
+use crate::window::Check;
+
+/// How often the change of sessions is looked at.
+const LOOK_EVERY: Duration = Duration::from_millis(100);
+
+/// Where a replica stands in the session that comes next, or runs.
+#[derive(Debug)]
+pub(super) enum Stage<C> {
+    /// Its log was marked, and is being opened.
+    Recovering,
+    /// It runs.
+    Running(Box<Engine<C>>),
+    /// Its cut is being stored.
+    Storing,
+    /// Its log is being made.
+    Opening,
+    /// Its log is being marked.
+    Marking(C),
+    /// This replica takes no part: it has no key there, or has lost its log.
+    Out,
+}
+
+/// A replica over its sessions, without anything that it touches.
+#[derive(Debug)]
+pub struct Sessions<C> {
+    pub(super) place: Place,
+    pub(super) options: Options,
+    pub(super) history: History,
+    pub(super) stage: Stage<C>,
+    pub(super) old: Option<Old<C>>,
+    pub(super) peers: PeerSessions,
+    pub(super) early: EarlyFrames,
+    /// Peers from which a frame of the session that runs has come: bit i for replica i.
+    pub(super) met: u16,
+    /// The own key that was made last, and its session.
+    pub(super) own_key: Option<(u32, PublicKey)>,
+    /// Any public key: all have the same head.
+    pub(super) known_key: PublicKey,
+    pub(super) behind: Option<Behind>,
+    /// What was received and has not arrived, between two sessions.
+    pub(super) waiting: Vec<Tx>,
+    /// How the session ended, while that is being stored.
+    pub(super) ended: Option<Arc<Ended>>,
+    /// Submissions that wait, between two sessions.
+    pub(super) clients: Clients,
+    /// What the engine that runs had made final when it last got on, and when that was.
+    pub(super) progress: (usize, u32),
+    pub(super) progress_at: Time,
+    pub(super) announced_at: Time,
+    pub(super) asks: Vec<crate::budget::Budget>,
+    /// The session of the records that are being made durable.
+    pending_of: Option<u32>,
+    is_old_next: bool,
+    looked_at: Option<Time>,
+    outputs: Vec<Output>,
+}
+
+impl<C: Core> Sessions<C> {
+    /// A replica that starts with what its store holds.
+    pub fn open(place: Place, options: Options, restart: Restart, now: Time) -> Sessions<C> {
+        let known_key = restart.history.keys.iter().flatten().next().copied();
+        let mut made = Sessions {
+            place,
+            options,
+            history: restart.history,
+            stage: Stage::Recovering,
+            old: None,
+            peers: PeerSessions::new(place.n),
+            early: EarlyFrames::new(place.n),
+            met: 0,
+            own_key: None,
+            known_key: known_key.unwrap_or([0; 60]),
+            behind: None,
+            waiting: Vec::new(),
+            ended: None,
+            clients: Clients::default(),
+            progress: (0, 0),
+            progress_at: now,
+            announced_at: now,
+            asks: vec![crate::budget::Budget::new(20.0, 40.0); place.n as usize],
+            pending_of: None,
+            is_old_next: false,
+            looked_at: None,
+            outputs: Vec::new(),
+        };
+        if restart.is_opened {
+            let (session, keys) = (made.history.session, made.history.keys.clone());
+            made.put(Output::Recover(Recover { session, keys }));
+        } else {
+            made.begin();
+        }
+        made.recover_old(restart.helped);
+        made
+    }
+
+    fn recover_old(&mut self, keys: Option<PublicKeys>) {
+        if let (Some(keys), Some(session)) = (keys, self.history.session.checked_sub(1)) {
+            self.put(Output::Recover(Recover { session, keys }));
+        }
+    }
+
+    /// Starts with the next session: its log first, or without part in it.
+    pub(super) fn begin(&mut self) {
+        let History { session, keys, .. } = &self.history;
+        if keys.get(self.place.me as usize).is_some_and(Option::is_some) {
+            let (session, keys) = (*session, keys.clone());
+            self.stage = Stage::Opening;
+            self.put(Output::OpenLog(OpenLog { session, keys }));
+        } else {
+            self.sit_out();
+        }
+    }
+
+    /// Takes what happened. What it leads to comes with [`Sessions::prepare`] and the turns.
+    pub fn take(&mut self, input: Input<C>, now: Time) -> Result<(), Error> {
+        match input {
+            Input::Frame { peer, frame, room } => self.hear(peer, frame, room, now)?,
+            Input::Connected(peer) => {
+                for engine in self.engines() {
+                    engine.take(engine::Input::Connected(peer), now)?;
+                }
+            }
+            Input::Submit { ticket, txs } => self.submit(ticket, txs, now)?,
+            Input::Gone(ticket) => {
+                self.clients.remove(ticket);
+                if let Stage::Running(engine) = &mut self.stage {
+                    engine.take(engine::Input::Gone(ticket), now)?;
+                }
+            }
+            Input::EndSession => {
+                if let Stage::Running(engine) = &mut self.stage {
+                    engine.want_end();
+                }
+            }
+            Input::Key { session, key } => self.take_key(session, key),
+            Input::Found(found) => self.answer_peer(found),
+            Input::Stored(stored) => self.stored(&stored),
+            Input::Opened(opened) => self.opened(opened),
+            Input::Marked(marked) => self.marked(&marked, now)?,
+            Input::Recovered(recovered) => self.recovered(recovered, now)?,
+        }
+        self.collect(now)
+    }
+
+    fn answer_peer(&mut self, found: Found) {
+        let Found { read, end, batches } = found;
+        let part = crate::sessions::frames::HistoryPart {
+            session: read.session,
+            end,
+            from: read.from,
+            batches,
+        };
+        let frame = crate::sessions::frames::SessionFrame::Part(part).encode();
+        self.put(Output::Send { to: read.peer, frame });
+    }
+
+    // ---- turns
+
+    /// Prepares the next events of one session, as [`Engine::prepare`] does.
+    pub fn prepare(&mut self, now: Time) -> Result<Option<Group>, Error> {
+        self.look(now)?;
+        if self.pending_of.is_some() {
+            return Ok(None);
+        }
+        self.is_old_next = !self.is_old_next;
+        for is_old in [self.is_old_next, !self.is_old_next] {
+            let found = if is_old {
+                self.old.as_mut().map(|it| (it.session, &mut it.engine))
+            } else if let Stage::Running(engine) = &mut self.stage {
+                Some((self.history.session, engine))
+            } else {
+                None
+            };
+            let Some((session, engine)) = found else { continue };
+            if let Some(pending) = engine.prepare(now)? {
+                self.pending_of = Some(session);
+                self.collect(now)?;
+                return Ok(Some(Group { session, pending }));
+            }
+        }
+        self.collect(now)?;
+        Ok(None)
+    }
+
+    /// The records are durable: the turns on these events may be made.
+    pub fn durable(&mut self, group: Group) {
+        self.pending_of = None;
+        if let Some(engine) = self.engine_of(group.session) {
+            engine.durable(group.pending);
+        }
+    }
+
+    /// Makes the turn on the next event whose record is durable; false where there is none.
+    pub fn turn(&mut self, now: Time) -> Result<bool, Error> {
+        let mut has_made = false;
+        for engine in self.engines() {
+            has_made = engine.turn(now)?;
+            if has_made {
+                break;
+            }
+        }
+        self.collect(now)?;
+        Ok(has_made)
+    }
+
+    /// Whether no event of this session is being made durable or waits for its turn.
+    pub(super) fn is_idle(&self, session: u32) -> bool {
+        let engine = match &self.stage {
+            Stage::Running(engine) if self.history.session == session => Some(engine),
+            _ => self.old.as_ref().filter(|it| it.session == session).map(|it| &it.engine),
+        };
+        self.pending_of != Some(session) && engine.is_none_or(|it| it.is_idle())
+    }
+
+    fn engines(&mut self) -> impl Iterator<Item = &mut Box<Engine<C>>> {
+        let running = match &mut self.stage {
+            Stage::Running(engine) => Some(engine),
+            _ => None,
+        };
+        running.into_iter().chain(self.old.as_mut().map(|it| &mut it.engine))
+    }
+
+    /// The engine of a session.
+    pub(super) fn engine_of(&mut self, session: u32) -> Option<&mut Box<Engine<C>>> {
+        match &mut self.stage {
+            Stage::Running(engine) if self.history.session == session => Some(engine),
+            _ => self.old.as_mut().filter(|it| it.session == session).map(|it| &mut it.engine),
+        }
+    }
+
+    // ---- what goes out
+
+    /// What is to be done since the last call, in this order.
+    pub fn outputs(&mut self) -> Vec<Output> {
+        std::mem::take(&mut self.outputs)
+    }
+
+    pub(super) fn put(&mut self, output: Output) {
+        self.outputs.push(output);
+    }
+
+    /// Takes the outputs of the engines, and sees whether the session is cut.
+    pub(super) fn collect(&mut self, now: Time) -> Result<(), Error> {
+        if let Some(old) = &mut self.old {
+            let (session, outputs) = (old.session, old.engine.outputs());
+            for output in outputs {
+                // What the old engine makes final is void.
+                if !matches!(output, engine::Output::Batch { .. }) {
+                    self.pass(session, output);
+                }
+            }
+        }
+        if let Stage::Running(engine) = &mut self.stage {
+            let (session, is_cut, outputs) =
+                (self.history.session, engine.is_cut(), engine.outputs());
+            outputs.into_iter().for_each(|it| self.pass(session, it));
+            if is_cut {
+                self.cut(now)?;
+            }
+        }
+        Ok(())
+    }
+
+    fn pass(&mut self, session: u32, output: engine::Output) {
+        let position = self.history.position;
+        self.put(match output {
+            engine::Output::Send { to, frame } => {
+                Output::Send { to, frame: in_session(session, &frame) }
+            }
+            engine::Output::Broadcast(frame) => Output::Broadcast(in_session(session, &frame)),
+            engine::Output::Answer(ticket, answer) => Output::Answer(ticket, answer),
+            engine::Output::Batch { position: at, txs } => {
+                Output::Batch { position: position + at, txs }
+            }
+            engine::Output::Received(txs) => Output::Received(txs),
+            engine::Output::Freed(peer, count) => Output::Freed(peer, count),
+            engine::Output::Noted(note) => Output::Noted(note),
+        });
+    }
+
+    /// When [`Sessions::prepare`] is to be called at the latest.
+    pub fn wake_at(&self) -> Time {
+        let mut at = self.looked_at.unwrap_or_default() + LOOK_EVERY;
+        if let Stage::Running(engine) = &self.stage {
+            at = at.min(engine.wake_at());
+        }
+        if let Some(old) = &self.old {
+            at = at.min(old.engine.wake_at());
+        }
+        at
+    }
+
+    fn look(&mut self, now: Time) -> Result<(), Error> {
+        if self.looked_at.is_none_or(|at| now.since(at) >= LOOK_EVERY) {
+            self.looked_at = Some(now);
+            self.retire_old(now);
+            self.announce_from_outside(now);
+            self.catch_up(now)?;
+        }
+        Ok(())
+    }
+
+    // ---- clients
+
+    fn submit(&mut self, ticket: Ticket, txs: Vec<Tx>, now: Time) -> Result<(), Error> {
+        if let Some((tx, why)) = self.refusal(&txs)? {
+            self.put(Output::Answer(ticket, Answer::Refused(tx, why)));
+            return Ok(());
+        }
+        if let Stage::Running(engine) = &mut self.stage {
+            return engine.take(engine::Input::Submit { ticket, txs }, now);
+        }
+        if self.waiting.len() + txs.len() > self.options.max_waiting {
+            self.put(Output::Answer(ticket, Answer::Busy));
+        } else {
+            self.waiting.extend(&txs);
+            let new = txs.len();
+            self.clients.put(ticket, txs, new);
+        }
+        Ok(())
+    }
+
+    /// The first transaction of a submission that is not taken. One that is known here is.
+    fn refusal(&mut self, txs: &[Tx]) -> Result<Option<(Tx, Check)>, Error> {
+        for tx in txs {
+            let check = match &mut self.stage {
+                Stage::Running(engine) => engine.check(tx)?,
+                _ if crate::sessions::reserved::is_reserved(tx.client) => Check::Reserved,
+                _ => self.history.windows.check(tx),
+            };
+            if check != Check::New {
+                return Ok(Some((*tx, check)));
+            }
+        }
+        Ok(None)
+    }
+}

@@ -1,0 +1,57 @@
+//! Where a replica stands over its sessions, for operators and tests.
+
+use crate::core::Core;
+use crate::engine::Engine;
+use crate::sessions::service::{Sessions, Stage};
+use crate::status;
+use crate::time::Time;
+
+/// Where a replica stands over its sessions.
+#[derive(Clone, Debug)]
+pub struct Status {
+    /// The session that comes next, or runs.
+    pub session: u32,
+    /// What the replica does about it.
+    pub stage: &'static str,
+    /// Final batches, over all sessions.
+    pub position: usize,
+    /// Whether the engine of the session before is there, for those that are behind.
+    pub helps: bool,
+    /// The engine that runs.
+    pub engine: Option<status::Status>,
+}
+
+impl<C: Core> Sessions<C> {
+    /// Where the replica stands.
+    pub fn status(&self, now: Time) -> Status {
+        let (stage, engine) = match &self.stage {
+            Stage::Recovering => ("recovering", None),
+            Stage::Running(engine) => ("running", Some(engine.status(now))),
+            Stage::Storing => ("storing", None),
+            Stage::Opening => ("opening", None),
+            Stage::Marking(_) => ("marking", None),
+            Stage::Out => ("out", None),
+        };
+        let batches = engine.as_ref().map_or(0, |it| it.batches);
+        Status {
+            session: self.history.session,
+            stage,
+            position: self.history.position + batches,
+            helps: self.old.is_some(),
+            engine,
+        }
+    }
+
+    /// The engine that runs, for a test or a simulator.
+    pub fn running(&mut self) -> Option<&mut Engine<C>> {
+        match &mut self.stage {
+            Stage::Running(engine) => Some(engine),
+            _ => None,
+        }
+    }
+
+    /// The engine of the session before, for a test or a simulator.
+    pub fn helping(&mut self) -> Option<&mut Engine<C>> {
+        self.old.as_mut().map(|it| &mut *it.engine)
+    }
+}

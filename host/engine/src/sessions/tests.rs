@@ -1,0 +1,347 @@
+//! Sessions over cores that a test plays.
+
+use std::collections::VecDeque;
+
+use bytes::Bytes;
+use themis::{Error, Message, Reason, Tx};
+
+use super::frames::HistoryPart;
+use super::history::{History, Restart};
+use super::keys::announcement;
+use super::reserved::marker;
+use super::*;
+use crate::core::{Core, Delivered, Event, Turn};
+use crate::frame::{Frame, Standing};
+use crate::intake::played::PlayedDesk;
+use crate::setting::{Options, Place};
+use crate::time::Time;
+
+const PLACE: Place = Place { me: 0, n: 5, f: 1, views: 100 };
+const KEY: PublicKey = [9; 60];
+const NOW: Time = Time::from_nanos(0);
+
+/// Each message is a block that makes one more of these batches final.
+#[derive(Debug, Default)]
+struct Played {
+    prepared: VecDeque<Event>,
+    acted: Vec<Event>,
+    batches: Vec<Vec<Tx>>,
+    finals: usize,
+    desk: PlayedDesk,
+}
+
+impl Core for Played {
+    type Desk = PlayedDesk;
+
+    fn desk(&mut self) -> &mut PlayedDesk {
+        &mut self.desk
+    }
+
+    fn prepare(&mut self, event: &Event) -> Result<Vec<u8>, Error> {
+        self.prepared.push_back(event.clone());
+        Ok(vec![7])
+    }
+
+    fn would_change(&mut self, _: &Delivered) -> Result<bool, Error> {
+        Ok(true)
+    }
+
+    fn act(&mut self) -> Result<Turn, Error> {
+        let event = self.prepared.pop_front().ok_or(Error::Unready)?;
+        if matches!(event, Event::Delivered(_)) {
+            self.finals = (self.finals + 1).min(self.batches.len());
+        }
+        self.acted.push(event);
+        Ok(Turn::Made(Reason::Done))
+    }
+
+    fn sends(&mut self) -> Result<Vec<Message>, Error> {
+        Ok(Vec::new())
+    }
+
+    fn batch_count(&mut self) -> Result<usize, Error> {
+        Ok(self.finals)
+    }
+
+    fn batch(&mut self, at: usize) -> Result<Vec<Tx>, Error> {
+        Ok(self.batches[at].clone())
+    }
+
+    fn views(&mut self) -> Result<(u32, u32), Error> {
+        Ok((self.finals as u32, self.finals as u32))
+    }
+
+    fn give_count(&mut self, _: u32) -> Result<usize, Error> {
+        Ok(0)
+    }
+
+    fn give(&mut self, _: u32, _: usize) -> Result<Vec<u8>, Error> {
+        Err(Error::NoneThere)
+    }
+}
+
+fn tx(number: u32) -> Tx {
+    Tx { client: 1, number, payload: 0 }
+}
+
+fn fresh() -> Restart {
+    Restart { history: History::new(vec![Some(KEY); 5]), is_opened: false, helped: None }
+}
+
+fn opened(restart: Restart) -> Sessions<Played> {
+    Sessions::open(PLACE, Options::default(), restart, NOW)
+}
+
+fn core_with(batches: &[Vec<Tx>]) -> Played {
+    Played { batches: batches.to_vec(), ..Played::default() }
+}
+
+/// All turns on what waits.
+fn work(it: &mut Sessions<Played>, now: Time) {
+    while let Some(group) = it.prepare(now).unwrap() {
+        it.durable(group);
+        while it.turn(now).unwrap() {}
+    }
+}
+
+fn hear(it: &mut Sessions<Played>, peer: u32, frame: SessionFrame, now: Time) {
+    it.take(Input::Frame { peer, frame, room: 1 << 20 }, now).unwrap();
+    work(it, now);
+}
+
+/// Some peer's message of a session.
+fn message(session: u32) -> SessionFrame {
+    let data = Bytes::from_static(&[2, 5, 1, 0, 0, 0, 3]);
+    SessionFrame::In { session, frame: Frame::Message(data) }
+}
+
+fn status(session: u32) -> SessionFrame {
+    SessionFrame::In { session, frame: Frame::Status(Standing::default()) }
+}
+
+/// The steps of a change that were asked for; other outputs are passed over.
+fn steps(it: &mut Sessions<Played>) -> Vec<Output> {
+    let is_step = |it: &Output| {
+        matches!(it, Output::Store(_) | Output::OpenLog(_) | Output::Mark(_) | Output::Recover(_))
+    };
+    it.outputs().into_iter().filter(is_step).collect()
+}
+
+fn only(mut steps: Vec<Output>) -> Output {
+    assert_eq!(steps.len(), 1, "{steps:?}");
+    steps.remove(0)
+}
+
+fn open_log(it: &mut Sessions<Played>, core: Played) {
+    let Output::OpenLog(log) = only(steps(it)) else { panic!("no log is opened") };
+    it.take(Input::Opened(log.opened(core)), NOW).unwrap();
+}
+
+fn mark(it: &mut Sessions<Played>) {
+    let Output::Mark(mark) = only(steps(it)) else { panic!("no log is marked") };
+    it.take(Input::Marked(mark.marked()), NOW).unwrap();
+}
+
+/// The batches of a session in which all keys are agreed, with the marker in the last one.
+fn batches_to_the_cut(session: u32) -> Vec<Vec<Tx>> {
+    let keys = (0..5).flat_map(|it| announcement(it, session + 1, &KEY)).collect();
+    vec![vec![tx(1)], keys, vec![tx(2), marker(session)]]
+}
+
+/// A replica that runs the first session over a core.
+fn running(core: Played) -> Sessions<Played> {
+    let mut it = opened(fresh());
+    open_log(&mut it, core);
+    mark(&mut it);
+    it
+}
+
+/// One whose first session is cut, and to which a transaction has come that is carried over.
+fn cut() -> Sessions<Played> {
+    let mut batches = batches_to_the_cut(0);
+    batches.push(vec![tx(9)]); // void
+    let mut it = running(core_with(&batches));
+    it.take(Input::Submit { ticket: 1, txs: vec![tx(2), tx(3)] }, NOW).unwrap();
+    for peer in 1..4 {
+        let frame = Frame::Receipts { clock: 0, receipts: Vec::new() };
+        hear(&mut it, peer, SessionFrame::In { session: 0, frame }, NOW);
+    }
+    it.outputs();
+    (0..3).for_each(|_| hear(&mut it, 1, message(0), NOW));
+    it
+}
+
+#[test]
+fn each_step_of_a_change_waits_for_the_one_before() {
+    let mut it = cut();
+    let Output::Store(store) = only(steps(&mut it)) else { panic!("nothing is stored") };
+    let ended = store.ended().clone();
+    assert_eq!((ended.session, ended.first, ended.end()), (0, 0, 3));
+    assert_eq!(ended.carried, [tx(3)]);
+    assert_eq!(ended.keys, vec![Some(KEY); 5]);
+    work(&mut it, NOW);
+    assert!(steps(&mut it).is_empty());
+    it.take(Input::Stored(store.stored()), NOW).unwrap();
+    assert_eq!(it.status(NOW).stage, "opening");
+    open_log(&mut it, Played::default());
+    assert_eq!(it.status(NOW).stage, "marking");
+    work(&mut it, NOW);
+    assert!(it.running().is_none());
+    mark(&mut it);
+    work(&mut it, NOW);
+    assert_eq!((it.status(NOW).session, it.status(NOW).stage), (1, "running"));
+    let engine = it.running().unwrap();
+    assert_eq!(engine.core_mut().acted[0], Event::Arrived(vec![tx(3)]));
+}
+
+#[test]
+fn what_comes_after_the_marker_is_void() {
+    let mut it = cut();
+    let shown = |it: &mut Sessions<Played>| {
+        let batches = it.outputs().into_iter().filter(|it| matches!(it, Output::Batch { .. }));
+        batches.count()
+    };
+    assert_eq!(shown(&mut it), 3);
+    (0..3).for_each(|_| hear(&mut it, 1, message(0), NOW)); // one more is final there
+    assert_eq!(it.helping().unwrap().core_mut().finals, 4);
+    assert_eq!(shown(&mut it), 0);
+    assert_eq!(it.status(NOW).position, 0); // nothing is stored yet
+}
+
+#[test]
+fn a_start_goes_on_where_the_store_says() {
+    let mut history = History::new(vec![Some(KEY); 5]);
+    let Output::Store(store) = only(steps(&mut cut())) else { panic!() };
+    history.extend(store.ended());
+    let restart = |is_opened, helped| Restart { history: history.clone(), is_opened, helped };
+    // It was stored, and its log may be there or not.
+    let mut it = opened(restart(false, None));
+    open_log(&mut it, Played::default());
+    // It was marked.
+    let mut it = opened(restart(true, Some(vec![Some(KEY); 5])));
+    let mut asked = steps(&mut it);
+    let sessions: Vec<u32> = asked
+        .iter()
+        .filter_map(|it| if let Output::Recover(it) = it { Some(it.session()) } else { None })
+        .collect();
+    assert_eq!(sessions, [1, 0]);
+    let Output::Recover(recover) = asked.remove(0) else { panic!() };
+    let core = Played::default();
+    it.take(Input::Recovered(recover.recovered(core, Vec::new(), 0)), NOW).unwrap();
+    work(&mut it, NOW);
+    assert_eq!(it.running().unwrap().core_mut().acted[0], Event::Arrived(vec![tx(3)]));
+}
+
+#[test]
+fn a_lost_log_is_not_made_again() {
+    let mut history = History::new(vec![Some(KEY); 5]);
+    history.session = 4;
+    let mut it = opened(Restart { history, is_opened: true, helped: None });
+    let Output::Recover(recover) = only(steps(&mut it)) else { panic!() };
+    it.take(Input::Recovered(recover.lost()), NOW).unwrap();
+    work(&mut it, NOW);
+    assert_eq!(it.status(NOW).stage, "out");
+    assert!(steps(&mut it).is_empty());
+}
+
+#[test]
+fn one_without_a_key_sits_out_announces_the_next_one_and_takes_the_history() {
+    let mut history = History::new(vec![Some(KEY); 5]);
+    (history.session, history.keys[0]) = (1, None);
+    history.carried = vec![tx(2), tx(3)];
+    let mut it = opened(Restart { history, is_opened: false, helped: None });
+    let grow = |it: &Output| matches!(it, Output::GrowKey(2));
+    assert!(it.outputs().iter().any(grow));
+    it.take(Input::Key { session: 2, key: KEY }, NOW).unwrap();
+    let later = NOW + std::time::Duration::from_secs(1);
+    work(&mut it, later);
+    let told = it.outputs().into_iter().find_map(|it| match it {
+        Output::Broadcast(frame) => SessionFrame::decode(frame[4], &frame.slice(5..)).ok(),
+        _ => None,
+    });
+    let Some(SessionFrame::In { session: 1, frame: Frame::Receipts { receipts, .. } }) = told
+    else {
+        panic!("nothing is announced")
+    };
+    let told: Vec<Tx> = receipts.into_iter().map(|it| it.tx).collect();
+    assert_eq!(told, announcement(0, 2, &KEY));
+
+    let batches = batches_to_the_cut(1);
+    let digest = batches.iter().fold([0; 32], |digest, it| behind::chained(&digest, it));
+    let end = End { position: 3, digest };
+    let part = |batches| SessionFrame::Part(HistoryPart { session: 1, end, from: 0, batches });
+    hear(&mut it, 1, status(2), later);
+    let much_later = later + std::time::Duration::from_secs(1);
+    work(&mut it, much_later);
+    assert_eq!(asked_of(&mut it), []); // one peer alone may lie
+    hear(&mut it, 2, status(2), much_later);
+    let at_last = much_later + std::time::Duration::from_secs(1);
+    work(&mut it, at_last);
+    assert_eq!(asked_of(&mut it), [1, 2]);
+    hear(&mut it, 1, part(Vec::new()), at_last);
+    assert_eq!(asked_of(&mut it), []);
+    hear(&mut it, 2, part(Vec::new()), at_last);
+    assert_eq!(asked_of(&mut it), [1]);
+    hear(&mut it, 1, part(batches.clone()), at_last);
+    let Output::Store(store) = only(steps(&mut it)) else { panic!("nothing is stored") };
+    assert_eq!(store.ended().batches, batches);
+    assert_eq!(store.ended().carried, [tx(3)]);
+    it.take(Input::Stored(store.stored()), NOW).unwrap();
+    assert_eq!((it.status(NOW).session, it.status(NOW).stage), (2, "opening"));
+}
+
+fn asked_of(it: &mut Sessions<Played>) -> Vec<u32> {
+    let asked = it.outputs().into_iter().filter_map(|it| match it {
+        Output::Send { to, frame } if frame[4] == 17 => Some(to),
+        _ => None,
+    });
+    asked.collect()
+}
+
+#[test]
+fn the_engine_of_the_session_before_goes_once_all_are_in_the_next() {
+    let mut it = cut();
+    let Output::Store(store) = only(steps(&mut it)) else { panic!() };
+    it.take(Input::Stored(store.stored()), NOW).unwrap();
+    open_log(&mut it, Played::default());
+    mark(&mut it);
+    let retired =
+        |it: &mut Sessions<Played>| it.outputs().iter().any(|it| matches!(it, Output::Retired(0)));
+    (1..4).for_each(|peer| hear(&mut it, peer, status(1), NOW));
+    let later = NOW + std::time::Duration::from_secs(1);
+    work(&mut it, later);
+    assert!(!retired(&mut it) && it.status(NOW).helps);
+    hear(&mut it, 4, status(1), later + std::time::Duration::from_secs(1));
+    assert!(retired(&mut it) && !it.status(NOW).helps);
+}
+
+#[test]
+fn frames_of_the_next_session_wait_for_it() {
+    let mut it = cut();
+    hear(&mut it, 2, message(1), NOW);
+    let Output::Store(store) = only(steps(&mut it)) else { panic!() };
+    it.take(Input::Stored(store.stored()), NOW).unwrap();
+    open_log(&mut it, Played::default());
+    mark(&mut it);
+    work(&mut it, NOW);
+    let acted = &it.running().unwrap().core_mut().acted;
+    assert!(acted.iter().any(|it| matches!(it, Event::Delivered(_))));
+}
+
+#[test]
+fn clients_of_the_service_and_used_numbers_are_refused() {
+    let mut it = running(core_with(&[vec![tx(1)]]));
+    hear(&mut it, 1, message(0), NOW);
+    it.outputs();
+    let refused = |it: &mut Sessions<Played>, tx| {
+        it.take(Input::Submit { ticket: 5, txs: vec![tx] }, NOW).unwrap();
+        it.outputs().into_iter().find_map(|it| match it {
+            Output::Answer(5, Answer::Refused(_, why)) => Some(why),
+            _ => None,
+        })
+    };
+    assert_eq!(refused(&mut it, marker(0)), Some(crate::Check::Reserved));
+    let again = Tx { payload: 7, ..tx(1) };
+    assert_eq!(refused(&mut it, again), Some(crate::Check::BelowWindow));
+    assert_eq!(refused(&mut it, tx(4)), None);
+}

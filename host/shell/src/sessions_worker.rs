@@ -1,0 +1,441 @@
+//! The engine's thread, where sessions follow one another: two cores at most, and a log for each.
+
+use std::collections::HashMap;
+use std::sync::mpsc::{Receiver, RecvTimeoutError, Sender};
+use std::sync::Arc;
+use std::time::Instant;
+
+use serde_json::{json, Value};
+use themis_engine::core::Desk;
+use themis_engine::sessions::history::{History, Restart};
+use themis_engine::sessions::{Input, Output, Sessions};
+use themis_engine::tx::Tx;
+use themis_engine::{Answer, Status, Ticket, Time};
+use themis_store::{Identity, State};
+use tokio::sync::oneshot;
+
+use crate::config::Setup;
+use crate::exit::{Exit, Failure};
+use crate::fault::order;
+use crate::input::{Found as FoundTx, Inbox, Pages, Request};
+use crate::keeper::{Done, Job, Keeper, Step};
+use crate::link::Link;
+use crate::log::EventLog;
+use crate::metrics::{fault_of, page_of, Counted};
+use crate::observed::Observed;
+use crate::picture::{picture_of, Seen};
+use crate::receipt_log::ReceiptLog;
+use crate::recovery::{self, Found, Lock};
+use crate::timed::{Spent, Timed};
+use crate::worker::{status_line, Shared, Standing, MAX_LOGGED_FAULTS, MAX_TAKEN};
+
+/// The engine over sessions, and all that it touches.
+pub struct SessionsWorker {
+    setup: Arc<Setup>,
+    sessions: Sessions<Timed>,
+    keeper: Keeper,
+    shared: Shared,
+    receipts: Option<ReceiptLog>,
+    start: Instant,
+    lock: Lock,
+}
+
+/// The same while it works.
+struct Working {
+    setup: Arc<Setup>,
+    sessions: Sessions<Timed>,
+    jobs: Sender<Job>,
+    /// The logs that are open, by session.
+    logs: HashMap<u32, EventLog>,
+    shared: Shared,
+    receipts: Option<ReceiptLog>,
+    clients: HashMap<Ticket, oneshot::Sender<Answer>>,
+    observed: Observed,
+    start: Instant,
+    syncs: Spent,
+    frame_faults: u64,
+    _lock: Lock,
+}
+
+/// Whose store it is.
+pub fn owner(setup: &Setup) -> Identity {
+    Identity { cluster: setup.session_digest(), replica: setup.me() }
+}
+
+/// What the engine starts with.
+fn restart_of(history: themis_store::History) -> Restart {
+    let themis_store::History { session, carried, helped, windows } = history;
+    Restart {
+        is_opened: session.state == State::Opened,
+        helped: helped.map(|it| it.keys),
+        history: History {
+            session: session.number,
+            position: session.first,
+            digest: session.digest,
+            keys: session.keys,
+            carried,
+            windows,
+        },
+    }
+}
+
+impl SessionsWorker {
+    /// Reads what is durable. Logs are opened once it runs.
+    pub fn open(
+        setup: Arc<Setup>,
+        shared: Shared,
+        found: Found,
+    ) -> Result<SessionsWorker, Failure> {
+        let Found { store, history, logs, lock } = found;
+        if !setup.config.keep_logs {
+            recovery::remove_closed(&store, &logs)?;
+        }
+        let keeper = Keeper {
+            path: recovery::store_path(&setup.folder, setup.me()),
+            store,
+            reader: Keeper::reader(&setup.folder, &owner(&setup))?,
+            logs,
+            keeps_logs: setup.config.keep_logs,
+            role: setup.role()?,
+            master: setup.master()?,
+            setting: setup.setting_line(),
+            first: history.session.number,
+            dies_at: None,
+        };
+        let (place, options) = (setup.place(), setup.options());
+        let sessions = Sessions::open(place, options, restart_of(history), Time::default());
+        let receipts = setup.receipts_path().map(|it| ReceiptLog::open(&it)).transpose()?;
+        let start = Instant::now();
+        Ok(SessionsWorker { setup, sessions, keeper, shared, receipts, start, lock })
+    }
+
+    /// Works until it is told to stop, or until something fails.
+    pub fn run(self, requests: &Receiver<Request>, inbox: Inbox) -> Result<(), Failure> {
+        let SessionsWorker { setup, sessions, keeper, shared, receipts, start, lock } = self;
+        let jobs = keeper.start(inbox)?;
+        let mut working = Working {
+            setup,
+            sessions,
+            jobs,
+            logs: HashMap::new(),
+            shared,
+            receipts,
+            clients: HashMap::new(),
+            observed: Observed::default(),
+            start,
+            syncs: Spent::default(),
+            frame_faults: 0,
+            _lock: lock,
+        };
+        working.send_outputs()?;
+        working.run(requests)
+    }
+}
+
+/// Opens what is durable of a replica over sessions. `is_new`: it has never run, so it has no store.
+pub fn recover(setup: &Setup, is_new: bool) -> Result<Found, Failure> {
+    let owner = owner(setup);
+    if is_new {
+        let keys = setup.public_keys.iter().copied().map(Some).collect();
+        let first = setup.cluster.session;
+        recovery::create(&setup.folder, &owner, first, &setup.setting_line(), &keys)?;
+    }
+    recovery::open(&setup.folder, &owner, setup.config.fsync)
+}
+
+impl Working {
+    fn now(&self) -> Time {
+        Time::default() + self.start.elapsed()
+    }
+
+    fn run(&mut self, requests: &Receiver<Request>) -> Result<(), Failure> {
+        loop {
+            for request in requests.try_iter().take(MAX_TAKEN) {
+                if !self.take(request)? {
+                    return Ok(());
+                }
+            }
+            let has_worked = self.make_turns()?;
+            self.send_outputs()?;
+            if has_worked {
+                continue;
+            }
+            let wait = self.sessions.wake_at().since(self.now());
+            match requests.recv_timeout(wait) {
+                Ok(request) => {
+                    if !self.take(request)? {
+                        return Ok(());
+                    }
+                }
+                Err(RecvTimeoutError::Disconnected) => return Ok(()),
+                Err(RecvTimeoutError::Timeout) => {}
+            }
+        }
+    }
+
+    /// Makes one group of turns of one session; whether there were any.
+    fn make_turns(&mut self) -> Result<bool, Failure> {
+        let Some(group) = self.sessions.prepare(self.now())? else { return Ok(false) };
+        if !group.records().is_empty() {
+            let session = group.session();
+            let log = self.logs.get_mut(&session).ok_or_else(|| no_log(session))?;
+            self.syncs.time(|| log.append(group.records()))?;
+        }
+        self.sessions.durable(group);
+        while self.sessions.turn(self.now())? {
+            self.send_outputs()?; // others wait for them
+        }
+        Ok(true)
+    }
+
+    /// Takes a request; false where it is the one to stop.
+    fn take(&mut self, request: Request) -> Result<bool, Failure> {
+        let now = self.now();
+        match request {
+            Request::SessionFrame { peer, frame } => {
+                let room = self.shared.links[peer as usize].as_ref().map_or(0, Link::room);
+                self.sessions.take(Input::Frame { peer, frame, room }, now)?;
+            }
+            Request::Frame { peer, .. } => {
+                self.shared.slots[peer as usize].add_permits(1);
+                self.note_bad_frame(Some(peer), "a frame without its session");
+            }
+            Request::Done(done) => self.take_done(*done, now)?,
+            Request::Connected(peer) => self.sessions.take(Input::Connected(peer), now)?,
+            Request::BadFrame { peer, cause } => self.note_bad_frame(peer, &cause),
+            Request::Submit { ticket, txs, answer } => {
+                self.clients.insert(ticket, answer);
+                self.sessions.take(Input::Submit { ticket, txs }, now)?;
+            }
+            Request::Gone(ticket) => {
+                self.clients.remove(&ticket);
+                self.sessions.take(Input::Gone(ticket), now)?;
+            }
+            Request::Status(answer) => {
+                // A client that has gone needs no answer; the same below.
+                let _ = answer.send(self.status(now));
+            }
+            Request::Pages(answer) => {
+                let _ = answer.send(self.pages(now));
+            }
+            Request::Picture(answer) => {
+                let _ = answer.send(self.picture(now));
+            }
+            Request::Find { tx, answer } => {
+                let _ = answer.send(self.find(&tx)?);
+            }
+            Request::Close(answer) => {
+                self.sessions.take(Input::EndSession, now)?;
+                let _ = answer.send(());
+            }
+            Request::Fault { words, answer } if words.first().is_some_and(|it| it == "die") => {
+                let step = words.get(1).and_then(|it| Step::of(it));
+                if let Some(step) = step {
+                    self.ask(Job::DieAt(step))?;
+                }
+                let _ = answer.send(step.is_some());
+            }
+            Request::Fault { words, answer } => {
+                let disks = self.logs.values_mut().map(|it| &mut it.disk);
+                let _ = answer.send(order(&words, &self.shared.links, disks).is_some());
+            }
+            Request::Stop => return Ok(false),
+        }
+        Ok(true)
+    }
+
+    /// What the keeper has done.
+    fn take_done(&mut self, done: Done, now: Time) -> Result<(), Failure> {
+        let input = match done {
+            Done::Stored(stored, end) => {
+                self.shared.batches.stored(end);
+                self.observed.stored(end);
+                Input::Stored(stored)
+            }
+            Done::Opened(session, opened, log) => {
+                self.logs.insert(session, log);
+                Input::Opened(opened)
+            }
+            Done::Marked(marked) => Input::Marked(marked),
+            Done::Recovered(session, recovered, log) => {
+                self.logs.extend(log.map(|it| (session, it)));
+                Input::Recovered(recovered)
+            }
+            Done::Found(found) => Input::Found(found),
+            Done::Key(session, key) => Input::Key { session, key },
+            Done::Failed(failure) => return Err(failure),
+        };
+        Ok(self.sessions.take(input, now)?)
+    }
+
+    /// Does what the engine asked for.
+    fn send_outputs(&mut self) -> Result<(), Failure> {
+        let now = Instant::now();
+        for output in self.sessions.outputs() {
+            match output {
+                Output::Send { to, frame } => {
+                    if let Some(Some(link)) = self.shared.links.get(to as usize) {
+                        link.send(frame, now);
+                    }
+                }
+                Output::Broadcast(frame) => {
+                    for link in self.shared.links.iter().flatten() {
+                        link.send(frame.clone(), now);
+                    }
+                }
+                Output::Answer(ticket, answer) => {
+                    if let Some(client) = self.clients.remove(&ticket) {
+                        let _ = client.send(answer);
+                    }
+                }
+                Output::Batch { position, txs } => {
+                    self.observed.became_final(position, &txs, now);
+                    self.shared.batches.push(position, &txs);
+                }
+                Output::Received(txs) => self.observed.latency.received(&txs, now),
+                Output::Freed(peer, count) => {
+                    self.shared.slots[peer as usize].add_permits(count as usize);
+                }
+                Output::Noted(note) => {
+                    if let Some(receipts) = &mut self.receipts {
+                        receipts.put(note);
+                    }
+                }
+                Output::GrowKey(session) => self.ask(Job::GrowKey(session))?,
+                Output::Read(it) => self.ask(Job::Read(it))?,
+                Output::Store(it) => self.ask(Job::Store(it))?,
+                Output::OpenLog(it) => self.ask(Job::OpenLog(it))?,
+                Output::Mark(it) => self.ask(Job::Mark(it))?,
+                Output::Recover(it) => self.ask(Job::Recover(it))?,
+                Output::Retired(session) => {
+                    self.logs.remove(&session);
+                    self.ask(Job::Retired(session))?;
+                }
+            }
+        }
+        if let Some(receipts) = &mut self.receipts {
+            receipts.flush();
+        }
+        Ok(())
+    }
+
+    fn ask(&self, job: Job) -> Result<(), Failure> {
+        let gone = |_| Failure::new(Exit::Fault, "the keeper's thread has ended");
+        self.jobs.send(job).map_err(gone)
+    }
+
+    fn note_bad_frame(&mut self, peer: Option<u32>, cause: &str) {
+        self.frame_faults += 1;
+        if self.frame_faults <= MAX_LOGGED_FAULTS {
+            tracing::warn!(?peer, cause, "bad frame");
+        }
+    }
+
+    fn log_bytes(&self) -> u64 {
+        self.logs.values().map(|it| it.end).sum()
+    }
+
+    /// What is counted next to the engine.
+    fn standing(&self) -> Standing {
+        Standing {
+            dropped: self.shared.links.iter().flatten().map(Link::dropped).sum(),
+            log_bytes: self.log_bytes(),
+            syncs: self.syncs,
+            frame_faults: self.frame_faults,
+        }
+    }
+
+    /// Where the replica stands, as a line of JSON.
+    fn status(&mut self, now: Time) -> String {
+        let it = self.sessions.status(now);
+        let engine = it.engine.unwrap_or_else(between_sessions);
+        let mut fields = status_line(&self.setup, &engine, &self.standing());
+        let calls = self.sessions.running().map(|it| it.core_mut().all());
+        for (name, spent) in calls.into_iter().flatten() {
+            fields.insert(format!("{name}_us"), Value::from(spent.micros()));
+            fields.insert(format!("{name} calls"), Value::from(spent.calls));
+        }
+        fields.insert("session".to_owned(), json!(it.session));
+        fields.insert("batches".to_owned(), json!(it.position));
+        fields.insert("stage".to_owned(), json!(it.stage));
+        fields.insert("helps".to_owned(), json!(it.helps));
+        Value::Object(fields).to_string()
+    }
+
+    /// What Prometheus reads, and whether the replica is healthy.
+    fn pages(&mut self, now: Time) -> Pages {
+        let it = self.sessions.status(now);
+        let status = it.engine.unwrap_or_else(between_sessions);
+        let standing = self.standing();
+        let none = Default::default;
+        let counted = Counted {
+            replica: self.setup.me(),
+            session: it.session,
+            last_view: self.setup.cluster.views,
+            quorum: self.setup.place().quorum(),
+            log_bytes: standing.log_bytes,
+            frames_dropped: standing.dropped,
+            bad_frames: standing.frame_faults,
+            syncs: standing.syncs,
+            calls: self.sessions.running().map_or_else(none, |it| it.core_mut().all()),
+            latency: self.observed.latency.histogram(),
+        };
+        Pages { metrics: page_of(&status, &counted), fault: fault_of(&status, counted.quorum) }
+    }
+
+    /// What the live page shows.
+    fn picture(&mut self, now: Time) -> String {
+        let it = self.sessions.status(now);
+        let status = it.engine.unwrap_or_else(between_sessions);
+        let running = self.sessions.running();
+        let (heard, views) =
+            running.map_or_else(Default::default, |it| (it.peers_heard(now), it.recent_views()));
+        picture_of(&Seen {
+            setup: &self.setup,
+            session: it.session,
+            first: it.position - status.batches,
+            status: &status,
+            heard: &heard,
+            views: &views,
+            observed: &self.observed,
+            start: self.start,
+            now: Instant::now(),
+        })
+    }
+
+    /// What has become of a transaction. The store knows those of sessions that have ended.
+    fn find(&mut self, tx: &Tx) -> Result<FoundTx, Failure> {
+        let standing = match self.sessions.running() {
+            Some(engine) => engine.core_mut().standing(tx)?,
+            None => themis::Standing::Unknown,
+        };
+        let position = match self.observed.position_of(tx) {
+            None => self.shared.batches.position_of(tx)?,
+            some => some,
+        };
+        Ok(FoundTx { standing, position })
+    }
+}
+
+fn no_log(session: u32) -> Failure {
+    Failure::new(Exit::Fault, format!("the log of session {session} is not open"))
+}
+
+/// Where a replica stands while no session runs.
+fn between_sessions() -> Status {
+    Status {
+        view: 0,
+        commit: 0,
+        batches: 0,
+        digest: [0; 32],
+        arrived: 0,
+        finals: 0,
+        pending: 0,
+        queued: 0,
+        given: 0,
+        heard: 1,
+        is_over: false,
+        is_closing: false,
+        counts: Vec::new(),
+    }
+}
