@@ -2,9 +2,10 @@
 
 usage: python3 -m service.http_client FOLDER TX .. [--position P] [--wait SECONDS]
 
-It asks `themisd`: the host in Python does not speak HTTP. `Replica` has all calls of one replica, and
-needs Python's standard library alone. A batch is final for a client once f+1 replicas have reported
-it at its position, since one of them is honest; and a client should submit to all replicas.
+It asks `themisd`: the host in Python does not speak HTTP. `Replica` has all calls of one replica,
+and needs Python's standard library alone. A batch is final for a client once f+1 replicas have
+reported it at its position, since one of them is honest; and a client should submit to all
+replicas.
 
 With TLS each transaction goes over a connection with the certificate of its own client, as those of
 `service.client` do.

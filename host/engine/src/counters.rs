@@ -34,8 +34,10 @@ pub struct OfPeer {
     pub statuses_dropped: u64,
     /// Frames of receipts above the budget.
     pub receipts_dropped: u64,
-    /// Messages that no honest replica sends.
+    /// Messages that no honest replica sends, and which the core refused.
     pub refused: u64,
+    /// Messages that no honest replica sends, and which the core did not get.
+    pub unfit: u64,
     /// Proposals that were refused, by reason.
     pub proposals_refused: [u64; REASONS],
 }
@@ -85,6 +87,7 @@ impl OfPeer {
             ("statuses dropped", self.statuses_dropped),
             ("receipts dropped", self.receipts_dropped),
             ("refused", self.refused),
+            ("unfit", self.unfit),
         ];
         let counts = counts.into_iter().map(move |(name, value)| Count { name, value, ..of });
         let refused = Count { name: "proposals refused", ..of };

@@ -262,6 +262,11 @@ impl<C: Core> Engine<C> {
         if wire::given_view(&it.data).is_some() && !self.given.is_stored(block) {
             self.given.store(it.from, block);
         }
+        // Those up to the commit are not taken anyway.
+        let is_open = |it: wire::BlockViews| it.view > self.core.commit;
+        if wire::block_views(&it.data).is_some_and(is_open) {
+            wire::proposed_block(&it.data).into_iter().for_each(|it| self.given.know(it));
+        }
         Ok(())
     }
 

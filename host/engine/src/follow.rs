@@ -85,7 +85,7 @@ impl<C: Core> Engine<C> {
             self.follow_give(it, view, reason);
         }
         if it.from != self.place.me && reason != Reason::Done {
-            self.follow_refused(it.from, kind, reason, now);
+            self.follow_refused(it, kind, reason, now);
         }
         Ok(())
     }
@@ -104,6 +104,7 @@ impl<C: Core> Engine<C> {
         self.blocks.accepted(views.view);
         if kind == Some(Kind::Propose) {
             self.hold.proposed(now);
+            wire::proposed_block(&it.data).into_iter().for_each(|it| self.given.know(it));
         }
         self.intake.block_accepted(self.core.core.desk(), &it.data)?;
         let due = self.orphans.take(views.view);
@@ -147,8 +148,9 @@ impl<C: Core> Engine<C> {
         }
     }
 
-    fn follow_refused(&mut self, from: u32, kind: Option<Kind>, reason: Reason, now: Time) {
-        self.allowances[from as usize].refused(kind, reason, now);
+    fn follow_refused(&mut self, it: &Delivered, kind: Option<Kind>, reason: Reason, now: Time) {
+        let Delivered { from, ref data } = *it;
+        self.allowances[from as usize].refused(kind, reason, data.len(), now);
         if kind == Some(Kind::Propose) {
             self.counters.proposal_refused(from, reason);
         }

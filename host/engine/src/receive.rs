@@ -7,6 +7,7 @@ use crate::clients::{Answer, Ticket};
 use crate::core::{Core, Desk};
 use crate::engine::{Engine, Input, Output, MAX_BLOCKS};
 use crate::frame::Frame;
+use crate::guards::is_fit;
 use crate::time::Time;
 use crate::wire;
 
@@ -75,6 +76,10 @@ impl<C: Core> Engine<C> {
     /// A message of a peer, where no guard holds it or refuses it.
     fn guarded(&mut self, peer: u32, data: Bytes, now: Time) -> Option<Bytes> {
         let at = peer as usize;
+        if !is_fit(&self.place, peer, &data) {
+            self.counters.peers[at].unfit += 1;
+            return None;
+        }
         let known_view = self.known_view();
         if self.options.hold_asks && self.asks.holds(peer, &data, known_view) {
             self.counters.peers[at].asks_held += 1;

@@ -10,6 +10,9 @@ use crate::setting::{Options, Place};
 use crate::tx;
 use themis::{Message, Reason};
 
+#[path = "bounds_tests.rs"]
+mod bounds;
+
 /// Accepts all but what `refuses` names, and sends what `sends` holds next.
 #[derive(Default)]
 struct Played {
@@ -17,6 +20,10 @@ struct Played {
     acted: Vec<Event>,
     refuses: Option<(Vec<u8>, Reason)>,
     sends: Vec<Message>,
+    /// Blocks that it has, as Gives.
+    gives: Vec<Vec<u8>>,
+    /// Views that it has left.
+    left: u32,
     desk: PlayedDesk,
 }
 
@@ -67,20 +74,23 @@ impl Core for Played {
     }
 
     fn views(&mut self) -> Result<(u32, u32), Error> {
-        Ok((1, 0))
+        Ok((1 + self.left, 0))
     }
 
     fn give_count(&mut self, _: u32) -> Result<usize, Error> {
-        Ok(0)
+        Ok(self.gives.len())
     }
 
-    fn give(&mut self, _: u32, _: usize) -> Result<Vec<u8>, Error> {
-        Err(Error::NoneThere)
+    fn give(&mut self, _: u32, at: usize) -> Result<Vec<u8>, Error> {
+        self.gives.get(at).cloned().ok_or(Error::NoneThere)
     }
 }
 
 const NOW: Time = Time::from_nanos(0);
-const VOTE: &[u8] = &[2, 5, 1, 0, 0, 0, 3];
+/// A vote of replica 1, for the leader of view 5.
+const VOTE: &[u8] = &[2, 5, 1, 0, 0, 0, 4];
+/// One of replica 2.
+const OTHER_VOTE: &[u8] = &[2, 5, 2, 0, 0, 0, 4];
 
 fn engine(options: Options) -> Engine<Played> {
     let place = Place { me: 0, n: 5, f: 1, views: 100 };
@@ -120,7 +130,7 @@ fn nothing_is_sent_before_its_record_is_durable() {
     hears(&mut it, 1, message(VOTE));
     let pending = it.prepare(NOW).unwrap().unwrap();
     assert_eq!(pending.records(), [7]);
-    hears(&mut it, 2, message(VOTE));
+    hears(&mut it, 2, message(OTHER_VOTE));
     assert!(it.prepare(NOW).unwrap().is_none(), "one group at a time");
     assert!(!it.turn(NOW).unwrap());
     assert_eq!(messages_sent(&mut it), 0);
@@ -194,7 +204,7 @@ fn a_refused_vote_is_delivered_again_once_its_block_is_stored() {
     };
     assert_eq!(votes(&mut it), 1);
     it.core_mut().refuses = None;
-    hears(&mut it, 3, message(&[2, 4, 3, 0, 0, 0, 3, 0, 0, 0, 2]));
+    hears(&mut it, 4, message(&[2, 4, 4, 0, 0, 0, 4, 0, 0, 0, 3]));
     work(&mut it, NOW);
     assert_eq!(votes(&mut it), 2);
     work(&mut it, NOW);
@@ -203,7 +213,7 @@ fn a_refused_vote_is_delivered_again_once_its_block_is_stored() {
 
 #[test]
 fn an_early_ask_waits_unless_the_guard_is_off() {
-    let ask = message(&[2, 2, 1, 0, 0, 0, 90]);
+    let ask = message(&[2, 2, 1, 0, 0, 0, 91]);
     for (hold_asks, expected) in [(true, 0), (false, 1)] {
         let mut it = engine(Options { hold_asks, ..Options::default() });
         hears(&mut it, 1, ask.clone());
@@ -213,41 +223,21 @@ fn an_early_ask_waits_unless_the_guard_is_off() {
     }
 }
 
-/// A count by its name in the status.
-fn count_of(it: &Engine<Played>, name: &str) -> Option<u64> {
-    let counts = it.status(NOW).counts;
-    counts.iter().find(|one| one.to_string() == name).map(|one| one.value)
-}
-
 #[test]
-fn a_flood_of_statuses_is_dropped_and_counted() {
+fn a_block_that_was_proposed_is_not_taken_again() {
     let mut it = engine(Options::default());
-    for _ in 0..1000 {
-        hears(&mut it, 1, Frame::Status(Standing::default()));
-    }
-    assert_eq!(count_of(&it, "statuses dropped of 1"), Some(900));
-    let freed = it.outputs();
-    assert!(freed.contains(&Output::Freed(1, 1000)), "each slot is free again");
-}
-
-#[test]
-fn refused_proposals_are_counted_and_slow_their_peer() {
-    let mut it = engine(Options::default());
-    let proposal: &[u8] = &[2, 4, 1, 0, 0, 0, 6];
-    it.core_mut().refuses = Some((proposal.to_vec(), Reason::Misfit));
-    for _ in 0..64 {
-        hears(&mut it, 1, message(proposal));
-        hears(&mut it, 2, message(VOTE));
-    }
+    let proposal = proposal();
+    hears(&mut it, 1, Frame::Message(proposal.clone()));
     work(&mut it, NOW);
-    let acted = |it: &mut Engine<Played>, from: u32| {
-        let is_of = |it: &&Event| matches!(it, Event::Delivered(it) if it.from == from);
-        it.core_mut().acted.iter().filter(is_of).count()
-    };
-    assert_eq!((acted(&mut it, 1), acted(&mut it, 2)), (8, 64));
-    assert_eq!(count_of(&it, "proposals refused of 1 for 9"), Some(8));
-    work(&mut it, NOW + Duration::from_secs(1));
-    assert!((9..24).contains(&acted(&mut it, 1)), "it is slowed, and not shut out");
+    let give = [&[2, 7], &proposal[3..]].concat();
+    let acted = it.core_mut().acted.len();
+    hears(&mut it, 2, message(&give));
+    work(&mut it, NOW);
+    assert_eq!(it.core_mut().acted.len(), acted);
+    let other = proposal_of(7, &[]);
+    hears(&mut it, 2, message(&[&[2, 7], &other[3..]].concat()));
+    work(&mut it, NOW);
+    assert_eq!(it.core_mut().acted.len(), acted + 1);
 }
 
 fn burst() -> Vec<Tx> {

@@ -8,6 +8,10 @@ use crate::tx::{self, TX_BYTES};
 
 const VERSION: u8 = 2;
 const DIGEST: usize = 32;
+/// The longest seal, with its size: one of two levels.
+const MAX_SEAL: usize = 2 + 4916;
+/// Transactions of the two lists of a local order.
+const MAX_LISTED: usize = 128 + 256;
 
 /// The kinds of messages.
 #[derive(Clone, Copy, Debug, PartialEq, Eq)]
@@ -56,6 +60,37 @@ pub fn kind_of(data: &[u8]) -> Option<Kind> {
 
 fn u32_at(data: &[u8], at: usize) -> Option<u32> {
     Some(u32::from_be_bytes(data.get(at..at + 4)?.try_into().ok()?))
+}
+
+/// Who sealed a message, and the view that it names; none for a Fetch and a Give, which nobody seals.
+pub fn sender_and_view(data: &[u8]) -> Option<(u32, u32)> {
+    match kind_of(data)? {
+        Kind::Fetch | Kind::Give => None,
+        Kind::NewView | Kind::Ask | Kind::Order | Kind::Propose | Kind::Vote => {
+            Some((u32::from(*data.get(2)?), u32_at(data, 3)?))
+        }
+    }
+}
+
+/// The greatest size of a message of n replicas.
+pub const fn max_size(kind: Kind, n: u32) -> usize {
+    let n = n as usize;
+    let head = 1 + 1 + 1 + 4;
+    let certificate = 4 + DIGEST + 1 + n * (1 + MAX_SEAL);
+    let order = 1 + 1 + 4 + DIGEST + 2 + 2 + MAX_LISTED * TX_BYTES + MAX_SEAL;
+    match kind {
+        Kind::NewView | Kind::Ask => head + certificate + MAX_SEAL,
+        Kind::Order => 1 + order,
+        Kind::Propose | Kind::Give => head + certificate + 1 + n * order + MAX_SEAL,
+        Kind::Vote => head + DIGEST + MAX_SEAL + 1 + order,
+        Kind::Fetch => 1 + 1 + DIGEST,
+    }
+}
+
+/// How many seals a message of that size has at most, and at least one.
+pub const fn seals_in(size: usize) -> usize {
+    // A seal of one level has half of that.
+    1 + 2 * size / MAX_SEAL
 }
 
 /// The view that an Ask names.
@@ -114,6 +149,17 @@ pub fn block_views(data: &[u8]) -> Option<BlockViews> {
     Some(BlockViews { view: u32_at(data, at)?, parent: u32_at(data, at + 4)? })
 }
 
+/// The block of a Propose.
+pub fn proposed_block(data: &[u8]) -> Option<&[u8]> {
+    if kind_of(data)? != Kind::Propose {
+        return None;
+    }
+    let from_block = data.get(3..)?;
+    let mut reader = Reader(from_block);
+    reader.fresh_lists()?;
+    from_block.get(..from_block.len() - reader.0.len())
+}
+
 /// The fresh list of one replica in a block: what it received and no block before proposes.
 #[derive(Clone, Debug, PartialEq, Eq)]
 pub struct Fresh {
@@ -125,20 +171,7 @@ pub struct Fresh {
 
 /// The fresh lists of the block in a Propose or a Give; none of other bytes.
 pub fn fresh_lists(data: &[u8]) -> Vec<Fresh> {
-    block_at(data).and_then(|at| read_fresh_lists(data.get(at..)?)).unwrap_or_default()
-}
-
-fn read_fresh_lists(block: &[u8]) -> Option<Vec<Fresh>> {
-    let mut reader = Reader(block);
-    reader.take(4)?;
-    reader.certificate()?;
-    let count = reader.u8()?;
-    let lists = (0..count).map(|_| {
-        let fresh = reader.order_fresh()?;
-        reader.sized(1)?;
-        Some(fresh)
-    });
-    lists.collect()
+    block_at(data).and_then(|at| Reader(data.get(at..)?).fresh_lists()).unwrap_or_default()
 }
 
 /// Fields from left to right; none where the bytes end.
@@ -174,6 +207,19 @@ impl<'a> Reader<'a> {
         Some(())
     }
 
+    /// Passes over a block; its fresh lists.
+    fn fresh_lists(&mut self) -> Option<Vec<Fresh>> {
+        self.take(4)?;
+        self.certificate()?;
+        let count = self.u8()?;
+        let lists = (0..count).map(|_| {
+            let fresh = self.order_fresh()?;
+            self.sized(1)?;
+            Some(fresh)
+        });
+        lists.collect()
+    }
+
     /// Passes over a local order up to its seal; its fresh list.
     fn order_fresh(&mut self) -> Option<Fresh> {
         self.take(1)?;
@@ -207,6 +253,17 @@ mod tests {
         assert_eq!(asked_view(&[2, 3, 0, 0, 0, 0, 9]), None);
         assert_eq!(kind_of(&[1, 2]), None);
         assert_eq!(needed_view(&[2, 5, 1, 0, 0, 0, 6]), Some(6));
+        assert_eq!(sender_and_view(&[2, 5, 1, 0, 0, 0, 6]), Some((1, 6)));
+        assert_eq!(sender_and_view(&[2, 7, 0, 0, 0, 6, 0]), None);
+    }
+
+    /// What two levels of trees, full lists and all replicas come to.
+    #[test]
+    fn sizes() {
+        assert_eq!(max_size(Kind::Fetch, 5), 34);
+        assert_eq!(max_size(Kind::Vote, 5), 7 + 32 + 4918 + 1 + 11_104);
+        assert_eq!(max_size(Kind::Propose, 16), 7 + 37 + 16 * 4919 + 1 + 16 * 11_104 + 4918);
+        assert_eq!((seals_in(100), seals_in(2 * 4918)), (1, 5));
     }
 
     #[test]
@@ -219,6 +276,8 @@ mod tests {
         propose.push(1);
         propose.extend(order(6));
         assert_eq!(fresh_lists(&propose), [Fresh { replica: 4, txs: vec![TX] }]);
+        let sealed = [&propose[..], &[0, 2, 9, 9]].concat();
+        assert_eq!(proposed_block(&sealed), Some(&propose[3..]));
         propose.pop();
         assert!(fresh_lists(&propose).is_empty());
     }

@@ -80,7 +80,7 @@ pub enum Done {
     /// The end of a session is durable, up to this position.
     Stored(Stored, usize),
     /// A log is there, with a new core.
-    Opened(u32, Opened<Timed>, EventLog),
+    Opened(u32, Opened<Timed>, Option<EventLog>),
     /// A log is marked.
     Marked(Marked),
     /// A log is open, or lost.
@@ -217,10 +217,20 @@ impl Keeper {
 
     fn open_log(&mut self, it: OpenLog) -> Result<Done, Failure> {
         let session = it.session();
-        let (mut replica, _) = self.core(session, it.keys(), &[])?;
+        let mut replica = match self.core(session, it.keys(), &[]) {
+            Ok((replica, _)) => replica,
+            Err(Error::WrongSecret) => {
+                tracing::error!(
+                    session,
+                    "the agreed key is not the own one; no part in the session"
+                );
+                return Ok(Done::Opened(session, it.other_key(), None));
+            }
+            Err(fault) => return Err(fault.into()),
+        };
         let log = self.logs.make(session, &replica.header()?)?;
         tracing::info!(session, "a log was made");
-        Ok(Done::Opened(session, it.opened(Timed::new(replica)), log))
+        Ok(Done::Opened(session, it.opened(Timed::new(replica)), Some(log)))
     }
 
     fn recover(&mut self, it: Recover) -> Result<Done, Failure> {

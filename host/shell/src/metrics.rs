@@ -32,7 +32,7 @@ pub struct Counted<'a> {
 }
 
 /// The counts of the engine: their names, those of their metrics, and what they count.
-const COUNTS: [(&str, &str, &str); 11] = [
+const COUNTS: [(&str, &str, &str); 12] = [
     ("ticks", "ticks_total", "Views that this replica asked for."),
     ("again", "prepared_again_total", "Events that had to be prepared once more."),
     ("blocks asked", "block_requests_total", "Requests for missing blocks."),
@@ -43,6 +43,11 @@ const COUNTS: [(&str, &str, &str); 11] = [
     ("statuses dropped", "statuses_dropped_total", "Statuses above the budget."),
     ("receipts dropped", "receipts_dropped_total", "Frames of receipts above the budget."),
     ("refused", "messages_refused_total", "Messages that no honest replica sends."),
+    (
+        "unfit",
+        "messages_unfit_total",
+        "Messages that the core did not get, as no honest replica sends them.",
+    ),
     ("proposals refused", "proposals_refused_total", "Proposals that the core refused."),
 ];
 

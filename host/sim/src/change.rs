@@ -3,7 +3,7 @@
 use std::time::Duration;
 
 use rand::Rng;
-use themis::Replica;
+use themis::{Error, Replica};
 use themis_engine::sessions::requests::{Mark, OpenLog, Recover, Store};
 use themis_engine::sessions::{Input, Read};
 
@@ -147,7 +147,14 @@ impl Node {
         if self.journals.get(&session).is_some_and(|it| !it.borrow().entries.is_empty()) {
             return Err(Violation(format!("the log of session {session} is made again")));
         }
-        let (mut replica, _): (Replica, _) = self.opened(session, &[])?;
+        let mut replica: Replica = match self.opened(session, &[]) {
+            Ok((replica, _)) => replica,
+            // A faulty replica has shown another key.
+            Err(Error::WrongSecret) if self.deeds.is_some() => {
+                return Ok(Input::Opened(it.other_key()));
+            }
+            Err(fault) => return Err(fault.into()),
+        };
         let header = replica.header()?.to_vec();
         self.journal(session).borrow_mut().acted = header.len();
         self.disk.logs.insert(session, header);

@@ -24,6 +24,8 @@ use crate::tapped::Tapped;
 /// Between what a deed sends of its own.
 pub const EVERY: Duration = Duration::from_millis(50);
 const MAX_KEPT: usize = 200;
+/// Votes of `Waste` to one peer at a time.
+const WASTED: usize = 60;
 /// The client of a replica that runs in front.
 pub const OWN_CLIENT: u32 = 77;
 /// Numbers of a client that `Split` tells of together.
@@ -175,6 +177,7 @@ impl Deeds {
                 Deed::Flood => self.flood(engine, rng, &mut out),
                 Deed::FrontRun => self.front_run(engine, now, rng)?,
                 Deed::Split => self.split(engine, &mut out),
+                Deed::Waste => self.waste(engine, &mut out),
                 Deed::TwoHeads
                 | Deed::Forge
                 | Deed::Half
@@ -265,6 +268,24 @@ impl Deeds {
             let data = [&give[..start], &order, &give[end..]].concat();
             self.to_all(&Frame::encode_message(&data), out);
             return;
+        }
+    }
+
+    /// To each peer that leads one of the next views, the same vote again and again: a good seal, with a
+    /// good order, for a block that nobody has.
+    fn waste(&self, engine: &mut Engine<Tapped>, out: &mut Sends) {
+        let own = engine.core_mut().ends().map_or(0, |(view, _)| view);
+        for view in own + 1..=(own + self.n).min(self.views - 1) {
+            let to = (view + 1) % self.n;
+            if to == self.me {
+                continue;
+            }
+            let vote = [&[5, self.me as u8][..], &view.to_be_bytes(), &[9; 32]].concat();
+            let next = (view + 1).to_be_bytes();
+            let order = [&[3, self.me as u8][..], &next, &[9; 32], &[0; 4]].concat();
+            let (vote, order) = (self.signer.sealed(&vote), self.signer.sealed(&order));
+            let frame = Frame::encode_message(&[&[2], &vote[..], &[1], &order].concat());
+            out.extend(std::iter::repeat_n((to, frame), WASTED));
         }
     }
 

@@ -1,13 +1,11 @@
 //! Simulates clusters of Themis by the thousand: `themis-sim --seeds 1..500 --jobs 2`.
 //!
-//! A seed determines a whole run: n engines over the real core in one thread, in virtual time, with
+//! A seed determines a whole run: n engines over the real core in one process, in virtual time, with
 //! a network and disks that fail, and in some runs a faulty replica. After each run it is checked
 //! that the honest replicas agree, that no transaction is final twice, that all is final once faults
 //! have stopped, that nothing passes what all received before, that no leaf sealed two statements,
 //! that what an engine holds is bounded, and, for some runs, that the proved audit finds nothing. A
 //! run that fails prints the line that repeats it.
-
-#![forbid(unsafe_code)]
 
 mod chain;
 mod change;
@@ -21,8 +19,10 @@ mod keys;
 mod many;
 mod network;
 mod node;
+mod opened;
 mod parts;
 mod plan;
+mod process;
 mod queue;
 mod receipts;
 mod run;
@@ -30,20 +30,20 @@ mod second_head;
 mod shrink;
 mod signer;
 mod store;
+mod sys;
 mod tapped;
 mod trace;
 mod world;
 
+use std::io::Result;
 use std::ops::Range;
 use std::process::ExitCode;
-use std::sync::atomic::{AtomicU64, Ordering};
-use std::sync::Mutex;
 use std::time::{Duration, Instant};
 
 use clap::{Parser, ValueEnum};
 
 use crate::plan::{Deed, Edits, Plan};
-use crate::run::{run, Mode, Report};
+use crate::run::{Mode, Report};
 use crate::shrink::shrink;
 
 /// Simulates clusters of Themis.
@@ -59,6 +59,9 @@ struct Arguments {
     /// Starts no run after so many seconds; seeds that are left are not run.
     #[arg(long)]
     within: Option<u64>,
+    /// Starts no run once one has failed.
+    #[arg(long)]
+    first: bool,
     /// The proved audit checks each run whose seed this divides; 0: none.
     #[arg(long, default_value_t = 10)]
     audit_every: u64,
@@ -95,6 +98,9 @@ struct Arguments {
     /// At least that many sessions follow one another; 0: one session alone.
     #[arg(long, default_value_t = 0)]
     sessions: u32,
+    /// Each run is one of those with more faults and transactions.
+    #[arg(long)]
+    long: bool,
 }
 
 /// What all runs came to.
@@ -113,6 +119,7 @@ struct Total {
     with_given: u64,
     audited: u64,
     virtual_time: Duration,
+    used: Duration,
 }
 
 fn main() -> ExitCode {
@@ -122,14 +129,16 @@ fn main() -> ExitCode {
         return ExitCode::from(2);
     };
     let start = Instant::now();
-    let total = run_all(&given, first..end, start);
+    let total = match run_all(&given, first..end, start) {
+        Ok(total) => total,
+        Err(fault) => {
+            eprintln!("themis-sim: {fault}");
+            return ExitCode::from(2);
+        }
+    };
     print_total(&total, start.elapsed());
     if let (true, Some(seed)) = (given.shrink, total.failed.iter().min()) {
-        let mode = Mode { is_audited: true, is_traced: false };
-        let edits = shrink(*seed, mode, given.edits());
-        let report = run(&Plan::new(*seed, &edits), mode);
-        println!("smaller: {}", line_of(*seed, &edits));
-        println!("  {}", report.violation.unwrap_or_default());
+        print_smaller(*seed, given.edits());
     }
     if total.failed.is_empty() {
         ExitCode::SUCCESS
@@ -138,22 +147,36 @@ fn main() -> ExitCode {
     }
 }
 
+fn print_smaller(seed: u64, edits: Edits) {
+    let mode = Mode { is_audited: true, is_traced: false };
+    let edits = shrink(seed, mode, edits);
+    let report = process::run(&Plan::new(seed, &edits), mode);
+    println!("smaller: {}", line_of(seed, &edits));
+    println!("  {}", report.violation.unwrap_or_default());
+}
+
 /// Runs the seeds, some at a time.
-fn run_all(given: &Arguments, seeds: Range<u64>, start: Instant) -> Total {
-    let (next, total) = (AtomicU64::new(seeds.start), Mutex::new(Total::default()));
+fn run_all(given: &Arguments, seeds: Range<u64>, start: Instant) -> Result<Total> {
     let is_late = || given.within.is_some_and(|it| start.elapsed() > Duration::from_secs(it));
-    std::thread::scope(|scope| {
-        for _ in 0..given.jobs.max(1) {
-            scope.spawn(|| loop {
-                let seed = next.fetch_add(1, Ordering::Relaxed);
-                if seed >= seeds.end || is_late() {
-                    return;
-                }
-                work(given, seed, &total);
-            });
+    let (mut total, mut left) = (Total::default(), seeds);
+    let (mut children, mut plans) = (Vec::new(), Vec::new());
+    loop {
+        let is_done = is_late() || given.first && !total.failed.is_empty();
+        while children.len() < given.jobs.max(1) && !is_done {
+            let Some(seed) = left.next() else { break };
+            let plan = Plan::new(seed, &given.edits());
+            if given.show {
+                println!("{plan:#?}");
+            }
+            children.push(process::start(&plan, given.mode(seed))?);
+            plans.push(plan);
         }
-    });
-    total.into_inner().unwrap_or_default()
+        if children.is_empty() {
+            return Ok(total);
+        }
+        let (at, ended) = sys::wait(&mut children)?;
+        total.add(given, &plans.remove(at), &process::report(&ended));
+    }
 }
 
 impl Arguments {
@@ -166,11 +189,13 @@ impl Arguments {
             burst: self.burst,
             spread: self.spread,
             sessions: self.sessions,
+            long: self.long,
         }
     }
 
-    fn is_audited(&self, seed: u64) -> bool {
-        self.audit_every > 0 && seed % self.audit_every == 0
+    fn mode(&self, seed: u64) -> Mode {
+        let is_audited = self.audit_every > 0 && seed % self.audit_every == 0;
+        Mode { is_audited, is_traced: self.trace }
     }
 }
 
@@ -205,50 +230,47 @@ fn line_of(seed: u64, edits: &Edits) -> String {
     if edits.sessions > 0 {
         out += &format!(" --sessions {}", edits.sessions);
     }
+    if edits.long {
+        out += " --long";
+    }
     if let Some(txs) = edits.txs {
         out += &format!(" --txs {txs}");
     }
     out
 }
 
-fn work(given: &Arguments, seed: u64, total: &Mutex<Total>) {
-    let edits = given.edits();
-    let plan = Plan::new(seed, &edits);
-    let start = Instant::now();
-    let mode = Mode { is_audited: given.is_audited(seed), is_traced: given.trace };
-    let report = run(&plan, mode);
-    if given.show {
-        println!("{plan:#?}");
-    }
-    if given.verbose {
-        print_run(&plan, &report, start.elapsed());
-    }
-    if let Some(violation) = &report.violation {
-        println!("FAILED {}\n  {violation}", line_of(seed, &edits));
-    }
-    let Ok(mut total) = total.lock() else { return };
-    total.runs += 1;
-    total.views += u64::from(report.views);
-    total.sessions += u64::from(report.sessions);
-    total.out += u64::from(report.taken);
-    total.carried += report.carried;
-    total.finals += report.finals;
-    total.jumps += report.jumps;
-    total.with_jumps += u64::from(report.jumps > 0);
-    total.common += report.common;
-    total.with_given += u64::from(report.given > 0);
-    total.audited += u64::from(report.audited > 0);
-    total.virtual_time += report.took;
-    if report.violation.is_some() {
-        total.failed.push(seed);
+impl Total {
+    /// Takes what a run came to.
+    fn add(&mut self, given: &Arguments, plan: &Plan, report: &Report) {
+        if given.verbose {
+            print_run(plan, report);
+        }
+        self.runs += 1;
+        self.views += u64::from(report.views);
+        self.sessions += u64::from(report.sessions);
+        self.out += u64::from(report.taken);
+        self.carried += report.carried;
+        self.finals += report.finals;
+        self.jumps += report.jumps;
+        self.with_jumps += u64::from(report.jumps > 0);
+        self.common += report.common;
+        self.with_given += u64::from(report.given > 0);
+        self.audited += u64::from(report.audited > 0);
+        self.virtual_time += report.took;
+        self.used += report.used;
+        if let Some(violation) = &report.violation {
+            println!("FAILED {}\n  {violation}", line_of(plan.seed, &given.edits()));
+            self.failed.push(plan.seed);
+        }
     }
 }
 
-fn print_run(plan: &Plan, report: &Report, took: Duration) {
+fn print_run(plan: &Plan, report: &Report) {
     println!(
-        "seed {} n={} sessions={} latency={:?} faults={} deeds={:?} views={} final={} common={} carried={} taken={} given={} jumps={} events={} gap={:.0?} time={:.1?} late={:.1?} took={:.2?}",
+        "seed {} n={} sessions={} latency={:?} faults={} deeds={:?} views={} final={} common={} carried={} taken={} given={} jumps={} events={} ticks={} gap={:.0?} time={:.1?} late={:.1?} used={:.2?}",
         plan.seed, plan.n, report.sessions, plan.latency, plan.faults.len(), plan.deeds, report.views, report.finals,
-        report.common, report.carried, report.taken, report.given, report.jumps, report.happenings, report.gap, report.took, report.late, took,
+        report.common, report.carried, report.taken, report.given, report.jumps, report.happenings, report.ticks, report.gap,
+        report.took, report.late, report.used,
     );
 }
 
@@ -257,7 +279,7 @@ fn print_total(total: &Total, took: Duration) {
         "{} runs, {} failed; {} sessions, {} of them taken from others, {} transactions carried over; {} views, \
          {} transactions final, {} runs audited; \
          {} received by all, {} pairs jump in {} runs, {} runs gave way; \
-         {:.0?} of their own time in {:.1?}",
+         {:.0?} of their own time in {:.1?}; {:.2?} of a processor for each",
         total.runs,
         total.failed.len(),
         total.sessions,
@@ -272,5 +294,6 @@ fn print_total(total: &Total, took: Duration) {
         total.with_given,
         total.virtual_time,
         took,
+        total.used / u32::try_from(total.runs.max(1)).unwrap_or(u32::MAX),
     );
 }

@@ -3,7 +3,6 @@
 use std::cell::RefCell;
 use std::collections::{BTreeMap, HashMap, HashSet, VecDeque};
 use std::rc::Rc;
-use std::sync::{Mutex, PoisonError};
 use std::time::Duration;
 
 use bytes::Bytes;
@@ -11,7 +10,7 @@ use themis::{Error, Replica, Role};
 use themis_engine::core::{event_of, records, Core, Event, Turn};
 use themis_engine::sessions::keys::PublicKey;
 use themis_engine::sessions::Sessions;
-use themis_engine::setting::{Options, Place};
+use themis_engine::setting::{Options, PaceOptions, Place};
 use themis_engine::tx::Tx;
 use themis_engine::{Engine, Restored, Time};
 
@@ -21,6 +20,7 @@ use crate::deeds::{Deeds, OWN_CLIENT};
 use crate::disk::Disk;
 use crate::driver::{Driver, Prepared};
 use crate::keys::{for_library, public_keys, secret, HEIGHT};
+use crate::opened;
 use crate::plan::{Deed, FaultKind, Plan};
 use crate::second_head::SecondHead;
 use crate::store::Durable;
@@ -48,18 +48,9 @@ fn arrivals(log: &[u8], from: usize) -> impl Iterator<Item = Tx> + '_ {
     })
 }
 
-/// The header of a new log. To grow a key takes a moment, so each header is made once.
-fn header_of(role: Role) -> Result<Vec<u8>, Violation> {
-    static HEADERS: Mutex<BTreeMap<(u32, u32), Vec<u8>>> = Mutex::new(BTreeMap::new());
-    let place = (role.n, role.me);
-    let mut headers = HEADERS.lock().unwrap_or_else(PoisonError::into_inner);
-    if let Some(header) = headers.get(&place) {
-        return Ok(header.clone());
-    }
-    let (mut replica, _) = Replica::open(&role, &secret(role.me, 0), &public_keys(role.n), &[])?;
-    let header = replica.header()?.to_vec();
-    headers.insert(place, header.clone());
-    Ok(header)
+/// What a replica is in a run.
+pub fn role_of(plan: &Plan, me: u32) -> Role {
+    Role { n: plan.n, f: plan.f, p: 1, q: 1, views: plan.views, me, height: HEIGHT }
 }
 
 /// A process.
@@ -117,6 +108,7 @@ pub struct Node {
     /// Tickets of submissions, with the submission's number.
     pub tickets: HashMap<u64, usize>,
     role: Role,
+    free_views: u32,
     twist: Twist,
     has_two_heads: bool,
 }
@@ -125,7 +117,7 @@ impl Node {
     /// A replica that was made and never started.
     pub fn new(plan: &Plan, me: u32, clock: Clock) -> Result<Node, Violation> {
         let (n, f, views) = (plan.n, plan.f, plan.views);
-        let role = Role { n, f, p: 1, q: 1, views, me, height: HEIGHT };
+        let role = role_of(plan, me);
         let deeds = if plan.is_honest(me) { &[][..] } else { &plan.deeds[..] };
         let made = |_| VecDeque::new();
         let mut node = Node {
@@ -152,6 +144,7 @@ impl Node {
             blocked: (0..n).map(made).collect(),
             tickets: HashMap::new(),
             role,
+            free_views: plan.free_views,
             twist: match deeds {
                 _ if deeds.contains(&Deed::FrontRun) => Twist::First(OWN_CLIENT),
                 _ if deeds.contains(&Deed::Reorder) => Twist::Reversed,
@@ -161,7 +154,7 @@ impl Node {
             has_two_heads: deeds.contains(&Deed::TwoHeads),
         };
         if node.store.is_none() {
-            let header = header_of(role)?;
+            let header = opened::header_of(&role)?;
             node.journal(0).borrow_mut().acted = header.len();
             node.disk.logs.insert(0, header);
         }
@@ -196,6 +189,10 @@ impl Node {
 
     /// The library's replica as a log leaves it.
     pub fn opened(&self, session: u32, log: &[u8]) -> Result<(Replica, usize), Error> {
+        let ready = if session == 0 { opened::take(&self.role, log) } else { None };
+        if let Some(replica) = ready {
+            return Ok((replica, log.len()));
+        }
         Replica::open(&self.role, &secret(self.place.me, session), &self.keys(session), log)
     }
 
@@ -205,7 +202,8 @@ impl Node {
             self.check_rot(place)?;
         }
         let (place, local) = (self.place, self.clock.local(now));
-        let options = Options { log_receipts: true, ..Options::default() };
+        let pace = PaceOptions { free: self.free_views, ..PaceOptions::default() };
+        let options = Options { log_receipts: true, pace, ..Options::default() };
         let driver = if let Some(store) = &self.store {
             let many = Sessions::open(place, options, store.restart(), local);
             Driver::Many(Box::new(many))
@@ -308,13 +306,36 @@ impl Node {
     }
 
     /// The records that were being written are durable; whether there were any.
-    pub fn synced(&mut self) -> bool {
-        let Some(process) = &mut self.process else { return false };
-        let Some(pending) = process.pending.take() else { return false };
+    pub fn synced(&mut self) -> Result<bool, Violation> {
+        let Some(process) = &mut self.process else { return Ok(false) };
+        let Some(pending) = process.pending.take() else { return Ok(false) };
         self.disk.append(pending.session(), pending.records());
-        self.arrived.extend(arrivals(pending.records(), 0));
+        // What is carried over arrives again, in the next session.
+        let is_once = self.store.is_none();
+        for tx in arrivals(pending.records(), 0) {
+            if !self.arrived.insert(tx) && is_once {
+                return Err(Violation(format!(
+                    "{tx:?} arrives twice at replica {}",
+                    self.place.me
+                )));
+            }
+        }
         process.driver.durable(pending);
-        true
+        Ok(true)
+    }
+
+    /// What the process acted on since the last call was durable before.
+    pub fn check_acted(&mut self) -> Result<(), Violation> {
+        for (session, journal) in &self.journals {
+            let mut journal = journal.borrow_mut();
+            let last = std::mem::take(&mut journal.last);
+            let durable = self.disk.logs.get(session).and_then(|it| it.get(..journal.acted));
+            if !last.is_empty() && !durable.is_some_and(|it| it.ends_with(&last)) {
+                let text = format!("replica {} acts on what is not durable", self.place.me);
+                return Err(Violation(text));
+            }
+        }
+        Ok(())
     }
 
     /// A transaction of which a client may not be told that it is durable here.

@@ -81,6 +81,8 @@ pub enum Deed {
     /// Tells half of its peers of other transactions than the other half, with the smallest stamps, and
     /// sends proposals that are none.
     Split,
+    /// Sends votes without end for a block that nobody has.
+    Waste,
     /// Lets the marker of a session arrive at its start, and tells so.
     EarlyMarker,
     /// Shows every second peer another key for the next session.
@@ -90,7 +92,7 @@ pub enum Deed {
 }
 
 /// What a faulty replica may do in one session.
-const DEEDS_OF_ONE: usize = 12;
+const DEEDS_OF_ONE: usize = 13;
 /// What it may do where sessions follow one another.
 const DEEDS_OF_MANY: [Deed; 9] = [
     Deed::EarlyMarker,
@@ -148,6 +150,10 @@ pub struct Plan {
     pub sessions: u32,
     /// When an operator asks all replicas to end their session.
     pub ends: Vec<u32>,
+    /// Views in a row that no replica holds back.
+    pub free_views: u32,
+    /// It is one of the few runs with more faults and transactions.
+    pub is_long: bool,
 }
 
 /// What is left of the plan of a seed, to make a failure smaller.
@@ -167,16 +173,19 @@ pub struct Edits {
     pub spread: u32,
     /// So many sessions that follow one another; 0: one alone.
     pub sessions: u32,
+    /// One of the runs with more faults and transactions.
+    pub long: bool,
 }
 
 impl Plan {
     /// The plan of a seed.
     pub fn new(seed: u64, edits: &Edits) -> Plan {
         let mut rng = ChaCha8Rng::seed_from_u64(seed);
-        let is_large = rng.gen_ratio(1, 40);
+        let is_long = rng.gen_ratio(1, 10) || edits.long;
+        let is_large = rng.gen_ratio(1, 80);
         let (n, f) = if is_large { (9, 2) } else { (5, 1) };
-        let latency = *[1, 1, 3, 10, 30, 80].choose(&mut rng).unwrap_or(&1);
-        let span = rng.gen_range(200..900);
+        let latency = *[1, 3, 10, 30, 80].choose(&mut rng).unwrap_or(&1);
+        let span = if is_long { rng.gen_range(300..900) } else { rng.gen_range(40..250) };
         let mut plan = Plan {
             seed,
             n,
@@ -190,6 +199,8 @@ impl Plan {
             span,
             sessions: edits.sessions,
             ends: Vec::new(),
+            free_views: *[2, 4, 12].choose(&mut rng).unwrap_or(&12),
+            is_long,
         };
         if plan.is_many() {
             // A quarter of the views has to be enough to make a marker final.
@@ -311,7 +322,7 @@ impl Plan {
     }
 
     fn draw_faults(&mut self, rng: &mut ChaCha8Rng) {
-        for _ in 0..rng.gen_range(0..5) {
+        for _ in 0..rng.gen_range(0..if self.is_long { 6 } else { 4 }) {
             let replica = rng.gen_range(0..self.n);
             let peer = (replica + rng.gen_range(1..self.n)) % self.n;
             let kind = match rng.gen_range(0..12) {
@@ -326,8 +337,8 @@ impl Plan {
                 9 => FaultKind::Alone,
                 _ => FaultKind::Break(peer),
             };
-            let is_long = rng.gen_ratio(1, 8);
-            let span = rng.gen_range(20..if is_long { 4000 } else { 600 });
+            let lasts = self.is_long && rng.gen_ratio(1, 3);
+            let span = rng.gen_range(20..if lasts { 4000 } else { 500 });
             self.faults.push(Fault { at: rng.gen_range(0..self.span), span, replica, kind });
         }
         self.faults.sort_by_key(|it| it.at);
@@ -335,11 +346,13 @@ impl Plan {
 
     fn draw_submissions(&mut self, rng: &mut ChaCha8Rng) {
         let mut numbers = [0u32; 4];
-        for _ in 0..rng.gen_range(2..7) {
+        let count = if self.is_long { rng.gen_range(3..8) } else { rng.gen_range(1..3) };
+        for number in 0..count {
             let client = rng.gen_range(0..numbers.len());
             // What one replica alone is given arrives slowly, so that is never much.
-            let to = rng.gen_ratio(1, 8).then(|| rng.gen_range(0..self.n));
-            let is_burst = to.is_none() && rng.gen_ratio(1, 10);
+            let is_for_one = number > 0 && rng.gen_ratio(1, 6);
+            let to = is_for_one.then(|| rng.gen_range(0..self.n));
+            let is_burst = to.is_none() && self.is_long && rng.gen_ratio(1, 5);
             let count = if is_burst { rng.gen_range(50..400) } else { rng.gen_range(1..8) };
             let txs = (0..count).map(|_| {
                 numbers[client] += 1;
@@ -349,7 +362,7 @@ impl Plan {
             self.submissions.push(Submission { at: rng.gen_range(0..self.span), txs, to });
         }
         self.draw_lonely(rng);
-        if rng.gen_ratio(1, 20) {
+        if self.is_long && rng.gen_ratio(1, 5) {
             self.spread(rng.gen_range(130..200));
         }
         self.submissions.sort_by_key(|it| it.at);

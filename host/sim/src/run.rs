@@ -5,9 +5,10 @@ use std::collections::HashSet;
 use std::rc::Rc;
 use std::time::Duration;
 
+use serde::{Deserialize, Serialize};
 use themis::{audit, Finding, Run};
 use themis_engine::tx::Tx;
-use themis_engine::Time;
+use themis_engine::{Count, Time};
 
 use crate::chain::committed;
 use crate::driver::Driver;
@@ -23,7 +24,9 @@ use crate::world::{at_ms, World};
 /// After faults have ended all has to be final within so long.
 const PATIENCE: Duration = Duration::from_secs(40);
 /// Where nothing is faulty. What makes a cluster slow is seen by it.
-const CALM_PATIENCE: Duration = Duration::from_secs(5);
+const CALM_PATIENCE: Duration = Duration::from_secs(3);
+/// One wakes an idle cluster. More are a view that failed, although nothing is faulty: a message was lost.
+const MAX_CALM_TICKS: u64 = 2;
 const TRACE_EVERY: Duration = Duration::from_millis(200);
 /// After all is final nothing more happens for so long.
 const IDLE: Duration = Duration::from_secs(3);
@@ -34,11 +37,14 @@ const MAX_INBOX: usize = 16 * 64;
 /// Of clients, of each peer, and of blocks.
 const MAX_QUEUE: usize = 16_384 + 16 * 4096;
 const MAX_PENDING: usize = 2_000;
+/// Seals of refused messages of one peer: of each start, and in each second.
+const MAX_WASTED: usize = 4000;
+const MAX_WASTED_RATE: f64 = 610.0;
 /// Bytes of a log: for each view, and for each block that a peer may give.
 const MAX_VIEW_BYTES: usize = 160 << 10;
 
 /// What a run came to.
-#[derive(Clone, Debug, Default)]
+#[derive(Clone, Debug, Default, Serialize, Deserialize)]
 pub struct Report {
     /// What went wrong.
     pub violation: Option<String>,
@@ -58,6 +64,8 @@ pub struct Report {
     pub given: usize,
     /// Things that happened.
     pub happenings: u64,
+    /// Ticks of the replica that ticked most, since its last start.
+    pub ticks: u64,
     /// How long the run took in its own time.
     pub took: Duration,
     /// How long after the last fault and submission all was final.
@@ -68,6 +76,8 @@ pub struct Report {
     pub gap: Duration,
     /// Entries of journals that the proved audit read.
     pub audited: usize,
+    /// The processor time of the run, if it had a process of its own.
+    pub used: Duration,
 }
 
 /// How a plan is run.
@@ -102,10 +112,12 @@ fn attempt(plan: &Plan, mode: Mode, report: &mut Report) -> Result<(), Violation
     let stores = || world.nodes.iter().filter_map(|it| it.store.as_ref());
     report.sessions = stores().map(|it| it.session() + 1).max().unwrap_or(1);
     report.taken = honest(&world).map(sessions_without_part).sum();
+    report.ticks = honest(&world).map(ticks_of).max().unwrap_or(0);
     ended?;
     if plan.is_many() {
         report.audited = many::check(&mut world, mode.is_audited)?;
     } else {
+        check_ticks(plan, report.ticks)?;
         check_idle(&mut world)?;
     }
     check_agreement(&world)?;
@@ -116,6 +128,9 @@ fn attempt(plan: &Plan, mode: Mode, report: &mut Report) -> Result<(), Violation
     }
     if plan.is_many() {
         return Ok(());
+    }
+    for node in honest(&world) {
+        check_guards(node, &world)?;
     }
     check_jumps(&mut world, report)?;
     if mode.is_audited {
@@ -144,6 +159,21 @@ fn sessions_without_part(node: &Node) -> u32 {
     let has_log = |session: &u32| node.journals.contains_key(session);
     let without = (0..store.session()).filter(|it| !has_log(it)).count();
     without as u32 + store.closed
+}
+
+fn ticks_of(node: &Node) -> u64 {
+    let Some(process) = &node.process else { return 0 };
+    let status = process.driver.status(process.wake);
+    let counts = status.map_or_else(Vec::new, |it| it.counts);
+    counts.iter().find(|it| it.name == "ticks").map_or(0, |it| it.value)
+}
+
+/// Where nothing is faulty, no view fails.
+fn check_ticks(plan: &Plan, ticks: u64) -> Result<(), Violation> {
+    if plan.is_calm() && ticks > MAX_CALM_TICKS {
+        return Err(Violation(format!("{ticks} ticks although nothing is faulty")));
+    }
+    Ok(())
 }
 
 /// The moment from which on there are no faults and submissions.
@@ -306,6 +336,31 @@ fn check_bounds(node: &mut Node, plan: &Plan) -> Result<(), Violation> {
         Ok(())
     } else {
         Err(Violation(format!("replica {} holds {sizes:?}, a log of {log}", node.place.me)))
+    }
+}
+
+/// What a faulty peer makes the core check for nothing is bounded, and an honest one sends nothing that
+/// guards take for the work of a faulty one.
+fn check_guards(node: &Node, world: &World) -> Result<(), Violation> {
+    let seconds = world.now.since(Time::default()).as_secs_f64();
+    let most = (node.incarnation as usize + 1) * MAX_WASTED + (seconds * MAX_WASTED_RATE) as usize;
+    let me = node.place.me;
+    for journal in node.journals.values() {
+        for (peer, seals) in journal.borrow().wasted.iter().filter(|it| *it.0 != me) {
+            if *seals > most {
+                let text = format!("replica {me} checks {seals} seals of {peer} in vain");
+                return Err(Violation(text));
+            }
+        }
+    }
+    let Some(process) = &node.process else { return Ok(()) };
+    let counts = process.driver.status(process.wake).map_or_else(Vec::new, |it| it.counts);
+    let is_wrong = |it: &&Count| {
+        it.name == "unfit" && it.value > 0 && it.peer.is_some_and(|it| world.plan.is_honest(it))
+    };
+    match counts.iter().find(is_wrong) {
+        Some(it) => Err(Violation(format!("replica {me} drops what is honest: {it}"))),
+        None => Ok(()),
     }
 }
 

@@ -1,11 +1,12 @@
 //! Makes a failing run smaller.
 
 use crate::plan::{Edits, Plan};
-use crate::run::{run, Mode};
+use crate::process;
+use crate::run::Mode;
 
 /// The smallest edits found under which the run of a seed still fails.
 pub fn shrink(seed: u64, mode: Mode, start: Edits) -> Edits {
-    let fails = |edits: &Edits| run(&Plan::new(seed, edits), mode).violation.is_some();
+    let fails = |edits: &Edits| process::run(&Plan::new(seed, edits), mode).violation.is_some();
     let all = Edits { drop: Vec::new(), drop_deeds: Vec::new(), txs: None, ..start.clone() };
     let whole = Plan::new(seed, &all);
     let mut best = start;

@@ -1,7 +1,7 @@
 //! The core of a simulated replica, which notes what the checks need.
 
 use std::cell::RefCell;
-use std::collections::{HashMap, VecDeque};
+use std::collections::{BTreeMap, HashMap, VecDeque};
 use std::rc::Rc;
 
 use sha2::{Digest, Sha256};
@@ -9,6 +9,7 @@ use themis::{Error, Message, Reason, Replica};
 use themis_engine::core::{Core, Delivered, Event, Turn};
 use themis_engine::sessions::reserved::marker;
 use themis_engine::tx::Tx;
+use themis_engine::wire::seals_in;
 
 use crate::parts::own_parts;
 use crate::second_head::SecondHead;
@@ -34,13 +35,24 @@ pub struct Journal {
     pub entries: Vec<Entry>,
     /// How many bytes of the log it has acted on.
     pub acted: usize,
+    /// The records of the last of these, for a check.
+    pub last: Vec<u8>,
     /// What each leaf sealed, of what was sent.
     leaves: HashMap<u32, [u8; 32]>,
     /// A leaf that sealed two statements.
     pub reused: Option<u32>,
+    /// Seals of messages that it refused, by their sender.
+    pub wasted: BTreeMap<u32, usize>,
 }
 
 impl Journal {
+    /// Notes what a turn refused.
+    fn refused(&mut self, event: &Event) {
+        if let Event::Delivered(it) = event {
+            *self.wasted.entry(it.from).or_default() += seals_in(it.data.len());
+        }
+    }
+
     /// Notes the seals of a message that was sent.
     fn sent(&mut self, message: &[u8]) {
         for part in own_parts(message) {
@@ -82,7 +94,7 @@ impl Twist {
 /// A replica of the library, and its journal.
 pub struct Tapped {
     replica: Replica,
-    prepared: VecDeque<(Event, usize)>,
+    prepared: VecDeque<(Event, Vec<u8>)>,
     journal: Rc<RefCell<Journal>>,
     /// In what order transactions arrive: a deed.
     twist: Twist,
@@ -134,7 +146,7 @@ impl Core for Tapped {
             other => other.clone(),
         };
         let record = self.replica.prepare(&event)?;
-        self.prepared.push_back((event, record.len()));
+        self.prepared.push_back((event, record.clone()));
         Ok(record)
     }
 
@@ -144,15 +156,19 @@ impl Core for Tapped {
 
     fn act(&mut self) -> Result<Turn, Error> {
         let turn = Core::act(&mut self.replica)?;
-        let Some((event, size)) = self.prepared.pop_front() else { return Err(Error::Unready) };
+        let Some((event, record)) = self.prepared.pop_front() else { return Err(Error::Unready) };
         if let Some(second) = &mut self.second {
             second.take(&event);
         }
-        if let (Turn::Made(reason), true) = (turn, size > 0) {
+        if !matches!(turn, Turn::Again | Turn::Made(Reason::Done)) {
+            self.journal.borrow_mut().refused(&event);
+        }
+        if let (Turn::Made(reason), false) = (turn, record.is_empty()) {
             let (known, sealed) = (self.replica.known()?, self.replica.sealed()?);
             let mut journal = self.journal.borrow_mut();
             journal.entries.push(Entry { event, reason, known, sealed });
-            journal.acted += size;
+            journal.acted += record.len();
+            journal.last.extend(record);
         }
         Ok(turn)
     }

@@ -221,7 +221,7 @@ impl World {
     }
 
     fn synced(&mut self, replica: u32) -> Result<(), Violation> {
-        if self.nodes[replica as usize].synced() {
+        if self.nodes[replica as usize].synced()? {
             self.make_turns(replica)?;
         }
         self.drive(replica)
@@ -233,6 +233,7 @@ impl World {
             let local = node.clock.local(self.now);
             let Some(process) = &mut node.process else { return Ok(()) };
             if !process.driver.turn(local)? {
+                node.check_acted()?;
                 return self.flush(replica);
             }
             self.flush(replica)?;

@@ -4,7 +4,7 @@ use themis::Reason;
 
 use crate::budget::Budget;
 use crate::time::Time;
-use crate::wire::Kind;
+use crate::wire::{seals_in, Kind};
 
 /// Status frames: an honest peer sends one for each new view, and four a second.
 const STATUS_RATE: f64 = 100.0;
@@ -19,6 +19,12 @@ const REFUSAL_RATE: f64 = 2.0;
 const REFUSAL_BURST: f64 = 8.0;
 /// What another message with a fault costs, compared with a proposal.
 const SMALL_REFUSAL: f64 = 0.1;
+/// Seals of all refused messages, one for each level of trees. Most refusals are no fault: a replica that
+/// is late refuses what it can't use yet, and its peers what it sends. But the seals are checked before,
+/// and a faulty peer could send such messages without end. An honest peer sends less in all: at forty
+/// views a second its votes, and its part of proposals and Asks, have some 520 seals.
+const WASTE_RATE: f64 = 600.0;
+const WASTE_BURST: f64 = 3000.0;
 
 /// What a peer may still send, ask for and get wrong.
 ///
@@ -35,6 +41,7 @@ pub struct Allowance {
     receipt_frames: Budget,
     receipts: Budget,
     refusals: Budget,
+    wasted: Budget,
 }
 
 impl Allowance {
@@ -47,6 +54,7 @@ impl Allowance {
             receipt_frames: Budget::new(RECEIPT_FRAME_RATE, RECEIPT_FRAME_RATE),
             receipts: Budget::new(RECEIPT_RATE, RECEIPT_BURST),
             refusals: Budget::new(REFUSAL_RATE, REFUSAL_BURST),
+            wasted: Budget::new(WASTE_RATE, WASTE_BURST),
         }
     }
 
@@ -60,19 +68,20 @@ impl Allowance {
         self.receipt_frames.take(1.0, now) && self.receipts.take(count as f64, now)
     }
 
-    /// The core refused a message of the peer.
-    pub fn refused(&mut self, kind: Option<Kind>, reason: Reason, now: Time) {
+    /// The core refused a message of the peer, of that size.
+    pub fn refused(&mut self, kind: Option<Kind>, reason: Reason, size: usize, now: Time) {
         let is_block = matches!(kind, Some(Kind::Propose | Kind::Give));
         if is_block && was_late(reason) {
             self.refusals.spend(1.0, now);
         } else if is_fault(reason) {
             self.refusals.spend(SMALL_REFUSAL, now);
         }
+        self.wasted.spend(seals_in(size) as f64, now);
     }
 
     /// Whether messages of the peer wait, as too many of them were refused of late.
     pub fn is_slowed(&mut self, now: Time) -> bool {
-        !self.refusals.has_left(now)
+        !self.refusals.has_left(now) || !self.wasted.has_left(now)
     }
 }
 
@@ -93,6 +102,9 @@ pub fn is_fault(reason: Reason) -> bool {
 mod tests {
     use super::*;
     use std::time::Duration;
+
+    /// Of a proposal of five replicas.
+    const SIZE: usize = 45_000;
 
     #[test]
     fn a_flood_of_statuses_is_dropped() {
@@ -116,13 +128,13 @@ mod tests {
         let (mut it, now) = (Allowance::new(1.0, 1.0), Time::default());
         for _ in 0..20 {
             // What an honest peer's proposal is refused for costs nothing.
-            it.refused(Some(Kind::Propose), Reason::OldView, now);
-            it.refused(Some(Kind::Propose), Reason::Orphan, now);
-            it.refused(Some(Kind::Vote), Reason::Repeat, now);
+            it.refused(Some(Kind::Propose), Reason::OldView, SIZE, now);
+            it.refused(Some(Kind::Propose), Reason::Orphan, SIZE, now);
+            it.refused(Some(Kind::Vote), Reason::Repeat, SIZE, now);
         }
         assert!(!it.is_slowed(now));
         for _ in 0..8 {
-            it.refused(Some(Kind::Propose), Reason::Misfit, now);
+            it.refused(Some(Kind::Propose), Reason::Misfit, SIZE, now);
         }
         assert!(it.is_slowed(now));
         assert!(!it.is_slowed(now + Duration::from_secs(1)));
@@ -132,12 +144,33 @@ mod tests {
     fn other_faults_are_cheaper() {
         let (mut it, now) = (Allowance::new(1.0, 1.0), Time::default());
         for _ in 0..60 {
-            it.refused(Some(Kind::Vote), Reason::BadSeal, now);
+            it.refused(Some(Kind::Vote), Reason::BadSeal, 100, now);
         }
         assert!(!it.is_slowed(now));
         for _ in 0..20 {
-            it.refused(None, Reason::BadWire, now);
+            it.refused(None, Reason::BadWire, 100, now);
         }
         assert!(it.is_slowed(now));
+    }
+
+    /// How many of these messages, one after the other, are taken within ten seconds.
+    fn taken_of_orphans(size: usize) -> usize {
+        let (mut it, start) = (Allowance::new(1.0, 1.0), Time::default());
+        let moments = (0..100_000).map(|at| start + Duration::from_micros(at * 100));
+        let taken = moments.filter(|now| {
+            let is_taken = !it.is_slowed(*now);
+            if is_taken {
+                it.refused(Some(Kind::Propose), Reason::Orphan, size, *now);
+            }
+            is_taken
+        });
+        taken.count()
+    }
+
+    #[test]
+    fn what_is_refused_without_a_fault_is_bounded_by_its_seals() {
+        // 9,000 seals: 19 of such a proposal, and one of a short message.
+        assert!((470..480).contains(&taken_of_orphans(SIZE)));
+        assert!((8_900..9_100).contains(&taken_of_orphans(100)));
     }
 }

@@ -49,6 +49,11 @@ impl GivenBlocks {
         self.known.insert(digest_of(block));
     }
 
+    /// The core stored a block that its leader proposed.
+    pub fn know(&mut self, block: &[u8]) {
+        self.known.insert(digest_of(block));
+    }
+
     /// Whether a given block is stored.
     pub fn is_stored(&self, block: &[u8]) -> bool {
         !self.known.is_empty() && self.known.contains(&digest_of(block))
@@ -83,5 +88,8 @@ mod tests {
         assert!(!given.may_take(1, b"two") && given.may_take(2, b"two"));
         given.ask(digest_of(b"two"));
         assert!(given.may_take(1, b"two"));
+        given.know(b"three");
+        assert!(given.is_stored(b"three") && !given.is_stored(b"two"));
+        assert_eq!(given.count(), 1);
     }
 }

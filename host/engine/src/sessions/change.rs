@@ -80,7 +80,8 @@ impl<C: Core> Sessions<C> {
     /// The log of the session is durable: it is marked before anything is sealed there.
     pub(super) fn opened(&mut self, opened: Opened<C>) {
         if matches!(self.stage, Stage::Opening) && opened.session == self.history.session {
-            self.stage = Stage::Marking(opened.core);
+            let Some(core) = opened.core else { return self.sit_out() };
+            self.stage = Stage::Marking(core);
             self.put(Output::Mark(Mark { session: opened.session }));
         }
     }

@@ -10,6 +10,7 @@ use crate::frame::Frame;
 use crate::sessions::behind::{Asked, Behind};
 use crate::sessions::frames::{AskHistory, HistoryPart, SessionFrame};
 use crate::sessions::keys::announcement;
+use crate::sessions::peers::Early;
 use crate::sessions::service::{Sessions, Stage};
 use crate::sessions::{Output, Read};
 use crate::time::Time;
@@ -85,7 +86,7 @@ impl<C: Core> Sessions<C> {
     /// Frames that came before the session ran here.
     pub(super) fn hear_early(&mut self, now: Time) -> Result<(), Error> {
         let session = self.history.session;
-        for (peer, frames, others) in self.early.take(session) {
+        for Early { peer, frames, others } in self.early.take(session) {
             if others > 0 {
                 self.put(Output::Freed(peer, others));
             }
@@ -128,7 +129,7 @@ impl<C: Core> Sessions<C> {
     }
 
     /// Asks for the end of the session, where others are in a later one and it does not get on here.
-    pub(super) fn catch_up(&mut self, now: Time) -> Result<(), Error> {
+    pub(super) fn catch_up(&mut self, now: Time) {
         let session = self.history.session;
         let is_stuck = match &self.stage {
             Stage::Running(engine) => {
@@ -144,13 +145,12 @@ impl<C: Core> Sessions<C> {
         let ahead: Vec<u32> = self.peers.after(session).collect();
         if !is_stuck || ahead.len() <= self.place.f as usize {
             self.behind = None;
-            return Ok(());
+            return;
         }
         let (first, digest, f) = (self.history.position, self.history.digest, self.place.f);
         let behind = self.behind.get_or_insert_with(|| Behind::new(session, first, digest, f));
         let asked = behind.step(&ahead, now);
         self.ask(asked);
-        Ok(())
     }
 
     /// A replica without part in the session announces its next key by receipts alone: its peers let

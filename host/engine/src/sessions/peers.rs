@@ -38,6 +38,17 @@ impl PeerSessions {
     }
 }
 
+/// What waited of one peer.
+#[derive(Debug)]
+pub struct Early {
+    /// The peer.
+    pub peer: u32,
+    /// Its frames of the session, each with the room that its peer's queue had.
+    pub frames: Vec<(Frame, usize)>,
+    /// How many frames of other sessions there were.
+    pub others: u32,
+}
+
 /// Frames of peers that are one session ahead.
 #[derive(Debug)]
 pub struct EarlyFrames {
@@ -60,15 +71,15 @@ impl EarlyFrames {
     }
 
     /// All that waited, by peer: those of this session, and how many others there were.
-    pub fn take(&mut self, session: u32) -> Vec<(u32, Vec<(Frame, usize)>, u32)> {
+    pub fn take(&mut self, session: u32) -> Vec<Early> {
         let mut out = Vec::new();
         for (peer, of) in (0..).zip(&mut self.of) {
             let all = std::mem::take(of);
             let count = all.len();
             let due = all.into_iter().filter(|(of, _, _)| *of == session);
-            let due: Vec<_> = due.map(|(_, frame, room)| (frame, room)).collect();
-            let others = (count - due.len()) as u32;
-            out.push((peer, due, others));
+            let frames: Vec<_> = due.map(|(_, frame, room)| (frame, room)).collect();
+            let others = (count - frames.len()) as u32;
+            out.push(Early { peer, frames, others });
         }
         out
     }
@@ -95,9 +106,9 @@ mod tests {
         assert_eq!(dropped, 8);
         early.put(0, 6, Frame::Blocks(1), 0);
         let taken = early.take(7);
-        assert_eq!((taken[0].1.len(), taken[0].2), (0, 1));
-        assert_eq!((taken[1].1.len(), taken[1].2), (32, 0));
-        assert_eq!(taken[1].1[0].0, Frame::Blocks(8));
-        assert!(early.take(7).iter().all(|it| it.1.is_empty()));
+        assert_eq!((taken[0].frames.len(), taken[0].others), (0, 1));
+        assert_eq!((taken[1].frames.len(), taken[1].others), (32, 0));
+        assert_eq!(taken[1].frames[0].0, Frame::Blocks(8));
+        assert!(early.take(7).iter().all(|it| it.frames.is_empty()));
     }
 }

@@ -70,7 +70,13 @@ impl OpenLog {
 
     /// The header of its log is durable, and so is its name in the folder. The core is a new one.
     pub fn opened<C>(self, core: C) -> Opened<C> {
-        Opened { session: self.session, core }
+        Opened { session: self.session, core: Some(core) }
+    }
+
+    /// The agreed key is not that of the own secret, so no log is made: the replica has no part in
+    /// the session. An honest replica's key is agreed as it announced it; its secret has changed.
+    pub fn other_key<C>(self) -> Opened<C> {
+        Opened { session: self.session, core: None }
     }
 }
 
@@ -78,7 +84,7 @@ impl OpenLog {
 #[derive(Debug)]
 pub struct Opened<C> {
     pub(super) session: u32,
-    pub(super) core: C,
+    pub(super) core: Option<C>,
 }
 
 /// Mark the log of a session as opened: from now on a log that is missing was lost.

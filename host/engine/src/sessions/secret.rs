@@ -24,11 +24,11 @@ fn hmac(key: &[u8], parts: &[&[u8]]) -> [u8; 32] {
     start(0x5c).chain_update(inner.finalize()).finalize().into()
 }
 
-/// HKDF with SHA-256 (RFC 5869): as many bytes as `into` takes, at most 8,160.
-fn hkdf(salt: &[u8], key: &[u8], info: &[u8], into: &mut [u8]) {
+/// HKDF with SHA-256 (RFC 5869): as many bytes as `out` takes, at most 8,160.
+fn hkdf(salt: &[u8], key: &[u8], info: &[u8], out: &mut [u8]) {
     let key = hmac(salt, &[key]);
     let mut last: Vec<u8> = Vec::new();
-    for (number, chunk) in (1u8..).zip(into.chunks_mut(32)) {
+    for (number, chunk) in (1u8..).zip(out.chunks_mut(32)) {
         last = hmac(&key, &[&last, info, &[number]]).to_vec();
         chunk.copy_from_slice(&last[..chunk.len()]);
     }

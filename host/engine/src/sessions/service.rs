@@ -178,7 +178,7 @@ impl<C: Core> Sessions<C> {
 
     /// Prepares the next events of one session, as [`Engine::prepare`] does.
     pub fn prepare(&mut self, now: Time) -> Result<Option<Group>, Error> {
-        self.look(now)?;
+        self.look(now);
         if self.pending_of.is_some() {
             return Ok(None);
         }
@@ -310,14 +310,13 @@ impl<C: Core> Sessions<C> {
         at
     }
 
-    fn look(&mut self, now: Time) -> Result<(), Error> {
+    fn look(&mut self, now: Time) {
         if self.looked_at.is_none_or(|at| now.since(at) >= LOOK_EVERY) {
             self.looked_at = Some(now);
             self.retire_old(now);
             self.announce_from_outside(now);
-            self.catch_up(now)?;
+            self.catch_up(now);
         }
-        Ok(())
     }
 
     // ---- clients

@@ -2,7 +2,6 @@
 
 use std::collections::VecDeque;
 
-use bytes::Bytes;
 use themis::{Error, Message, Reason, Tx};
 
 use super::frames::HistoryPart;
@@ -109,9 +108,9 @@ fn hear(it: &mut Sessions<Played>, peer: u32, frame: SessionFrame, now: Time) {
     work(it, now);
 }
 
-/// Some peer's message of a session.
-fn message(session: u32) -> SessionFrame {
-    let data = Bytes::from_static(&[2, 5, 1, 0, 0, 0, 3]);
+/// A peer's vote of a session, for a block of view 4: this replica leads the next view.
+fn vote(peer: u8, session: u32) -> SessionFrame {
+    let data = vec![2, 5, peer, 0, 0, 0, 4].into();
     SessionFrame::In { session, frame: Frame::Message(data) }
 }
 
@@ -167,7 +166,7 @@ fn cut() -> Sessions<Played> {
         hear(&mut it, peer, SessionFrame::In { session: 0, frame }, NOW);
     }
     it.outputs();
-    (0..3).for_each(|_| hear(&mut it, 1, message(0), NOW));
+    (0..3).for_each(|_| hear(&mut it, 1, vote(1, 0), NOW));
     it
 }
 
@@ -202,7 +201,7 @@ fn what_comes_after_the_marker_is_void() {
         batches.count()
     };
     assert_eq!(shown(&mut it), 3);
-    (0..3).for_each(|_| hear(&mut it, 1, message(0), NOW)); // one more is final there
+    (0..3).for_each(|_| hear(&mut it, 1, vote(1, 0), NOW)); // one more is final there
     assert_eq!(it.helping().unwrap().core_mut().finals, 4);
     assert_eq!(shown(&mut it), 0);
     assert_eq!(it.status(NOW).position, 0); // nothing is stored yet
@@ -318,7 +317,7 @@ fn the_engine_of_the_session_before_goes_once_all_are_in_the_next() {
 #[test]
 fn frames_of_the_next_session_wait_for_it() {
     let mut it = cut();
-    hear(&mut it, 2, message(1), NOW);
+    hear(&mut it, 2, vote(2, 1), NOW);
     let Output::Store(store) = only(steps(&mut it)) else { panic!() };
     it.take(Input::Stored(store.stored()), NOW).unwrap();
     open_log(&mut it, Played::default());
@@ -331,7 +330,7 @@ fn frames_of_the_next_session_wait_for_it() {
 #[test]
 fn clients_of_the_service_and_used_numbers_are_refused() {
     let mut it = running(core_with(&[vec![tx(1)]]));
-    hear(&mut it, 1, message(0), NOW);
+    hear(&mut it, 1, vote(1, 0), NOW);
     it.outputs();
     let refused = |it: &mut Sessions<Played>, tx| {
         it.take(Input::Submit { ticket: 5, txs: vec![tx] }, NOW).unwrap();
@@ -344,4 +343,13 @@ fn clients_of_the_service_and_used_numbers_are_refused() {
     let again = Tx { payload: 7, ..tx(1) };
     assert_eq!(refused(&mut it, again), Some(crate::Check::BelowWindow));
     assert_eq!(refused(&mut it, tx(4)), None);
+}
+
+#[test]
+fn a_replica_whose_agreed_key_is_another_sits_out() {
+    let mut it = opened(fresh());
+    let Output::OpenLog(log) = only(steps(&mut it)) else { panic!("no log is opened") };
+    it.take(Input::Opened(log.other_key()), NOW).unwrap();
+    assert_eq!(it.status(NOW).stage, "out");
+    assert!(steps(&mut it).is_empty());
 }

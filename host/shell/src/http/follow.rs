@@ -18,12 +18,12 @@ const MAX_EVENTS: usize = 16;
 /// Some batches from a position on.
 pub async fn page(site: &Site, from: usize, most: usize) -> Result<Answer, Refusal> {
     let lines = site.lines(from, most.min(MAX_BATCHES)).await.map_err(|_| Refusal::NoStore)?;
-    let mut size = 0;
+    let mut bytes = 0;
     let mut batches = Vec::new();
     for (at, line) in (from..).zip(&lines) {
         let batch = json_of(at, line);
-        size += batch.len();
-        if size > MAX_PAGE && !batches.is_empty() {
+        bytes += batch.len();
+        if bytes > MAX_PAGE && !batches.is_empty() {
             break;
         }
         batches.push(batch);

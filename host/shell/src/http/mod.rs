@@ -11,6 +11,8 @@ mod events;
 mod follow;
 mod live;
 mod patient;
+#[cfg(test)]
+mod played;
 mod site;
 #[cfg(test)]
 mod tests;

@@ -1,0 +1,123 @@
+//! Where a replica stands over its sessions: for operators, for Prometheus, and for the live page.
+
+use std::time::Instant;
+
+use serde_json::{json, Value};
+use themis::Standing;
+use themis_engine::core::Desk;
+use themis_engine::tx::Tx;
+use themis_engine::{Status, Time};
+
+use super::Working;
+use crate::exit::Failure;
+use crate::input::{Found, Pages};
+use crate::link::Link;
+use crate::metrics::{fault_of, page_of, Counted};
+use crate::picture::{picture_of, Seen};
+use crate::worker::{self, status_line};
+
+impl Working {
+    fn log_bytes(&self) -> u64 {
+        self.logs.values().map(|it| it.end).sum()
+    }
+
+    /// What is counted next to the engine.
+    fn standing(&self) -> worker::Standing {
+        worker::Standing {
+            dropped: self.shared.links.iter().flatten().map(Link::dropped).sum(),
+            log_bytes: self.log_bytes(),
+            syncs: self.syncs,
+            frame_faults: self.frame_faults,
+        }
+    }
+
+    /// Where the replica stands, as a line of JSON.
+    pub(super) fn status(&mut self, now: Time) -> String {
+        let it = self.sessions.status(now);
+        let engine = it.engine.unwrap_or_else(between_sessions);
+        let mut fields = status_line(&self.setup, &engine, &self.standing());
+        let calls = self.sessions.running().map(|it| it.core_mut().all());
+        for (name, spent) in calls.into_iter().flatten() {
+            fields.insert(format!("{name}_us"), Value::from(spent.micros()));
+            fields.insert(format!("{name} calls"), Value::from(spent.calls));
+        }
+        fields.insert("session".to_owned(), json!(it.session));
+        fields.insert("batches".to_owned(), json!(it.position));
+        fields.insert("stage".to_owned(), json!(it.stage));
+        fields.insert("helps".to_owned(), json!(it.helps));
+        Value::Object(fields).to_string()
+    }
+
+    /// What Prometheus reads, and whether the replica is healthy.
+    pub(super) fn pages(&mut self, now: Time) -> Pages {
+        let it = self.sessions.status(now);
+        let status = it.engine.unwrap_or_else(between_sessions);
+        let standing = self.standing();
+        let none = Default::default;
+        let counted = Counted {
+            replica: self.setup.me(),
+            session: it.session,
+            last_view: self.setup.cluster.views,
+            quorum: self.setup.place().quorum(),
+            log_bytes: standing.log_bytes,
+            frames_dropped: standing.dropped,
+            bad_frames: standing.frame_faults,
+            syncs: standing.syncs,
+            calls: self.sessions.running().map_or_else(none, |it| it.core_mut().all()),
+            latency: self.observed.latency.histogram(),
+        };
+        Pages { metrics: page_of(&status, &counted), fault: fault_of(&status, counted.quorum) }
+    }
+
+    /// What the live page shows.
+    pub(super) fn picture(&mut self, now: Time) -> String {
+        let it = self.sessions.status(now);
+        let status = it.engine.unwrap_or_else(between_sessions);
+        let running = self.sessions.running();
+        let (heard, views) =
+            running.map_or_else(Default::default, |it| (it.peers_heard(now), it.recent_views()));
+        picture_of(&Seen {
+            setup: &self.setup,
+            session: it.session,
+            first: it.position - status.batches,
+            status: &status,
+            heard: &heard,
+            views: &views,
+            observed: &self.observed,
+            start: self.start,
+            now: Instant::now(),
+        })
+    }
+
+    /// What has become of a transaction. The store knows those of sessions that have ended.
+    pub(super) fn find(&mut self, tx: &Tx) -> Result<Found, Failure> {
+        let standing = match self.sessions.running() {
+            Some(engine) => engine.core_mut().standing(tx)?,
+            None => Standing::Unknown,
+        };
+        let position = match self.observed.position_of(tx) {
+            None => self.shared.batches.position_of(tx)?,
+            some => some,
+        };
+        Ok(Found { standing, position })
+    }
+}
+
+/// Where a replica stands while no session runs.
+fn between_sessions() -> Status {
+    Status {
+        view: 0,
+        commit: 0,
+        batches: 0,
+        digest: [0; 32],
+        arrived: 0,
+        finals: 0,
+        pending: 0,
+        queued: 0,
+        given: 0,
+        heard: 1,
+        is_over: false,
+        is_closing: false,
+        counts: Vec::new(),
+    }
+}

@@ -1,0 +1,153 @@
+"""Bugs that tools/plant-host-bugs plants into the engine of the host."""
+
+from dataclasses import dataclass
+
+
+@dataclass(frozen=True)
+class Bug:
+    """What is wrong, and the edit that makes it so.
+
+    The old text is one expression, or statements up to their semicolon, and stands once in its
+    file. In a new text that has it, PLANTED is whether the bug is on. `words` tell the simulator
+    how to show the bug.
+    """
+
+    name: str
+    file: str
+    old: str
+    new: str
+    words: str = ""
+
+
+BUGS = [
+    Bug("a tick is not logged", "turns.rs",
+        "records.extend(self.core.core.prepare(event)?);",
+        "let record = self.core.core.prepare(event)?; "
+        "if !matches!(event, Event::Tick(_)) { records.extend(record); }"),
+    Bug("records are logged in the wrong order", "turns.rs",
+        "records.extend(self.core.core.prepare(event)?);",
+        "records = [self.core.core.prepare(event)?, records].concat();"),
+    Bug("an event that has to be prepared again is dropped", "turns.rs",
+        "self.turns.again.push(event);", "drop(event);"),
+    Bug("a restart forgets what has arrived", "engine.rs",
+        "self.intake.restore(self.core.core.desk(), &txs)?", "()"),
+    Bug("a restart reports one batch too few", "engine.rs",
+        "self.core.core.batch_count()?", "self.core.core.batch_count()?.saturating_sub(1)"),
+    Bug("early Asks are delivered", "guards/asks.rs",
+        "wire::asked_view(data).is_some_and(|it| it > known_view)", "false", "--deeds leap"),
+    Bug("the greatest view heard is believed", "peers.rs",
+        "said.get(self.f)", "said.first()", "--deeds garbage"),
+    Bug("a replica that is ahead ticks all the same", "pacemaker.rs",
+        "peers.count_at(own.view) < self.place.quorum()", "peers.count_at(own.view) == 0"),
+    Bug("it ticks without a quorum", "pacemaker.rs",
+        "peers.count_heard(now) >= self.place.quorum()", "peers.count_heard(now) >= 1"),
+    Bug("a silent leader is waited for, and no tick comes", "pacemaker.rs",
+        "(self.moved_at, self.has_ticked) = (now, true);",
+        "if own.view > 3 { return None; } (self.moved_at, self.has_ticked) = (now, true);"),
+    Bug("a replica that fell behind asks for no blocks", "catch_up.rs",
+        "behind.ahead.is_empty()", "behind.reached > 0"),
+    Bug("blocks are given newest first", "receive.rs",
+        "self.core.core.give(above, position)?",
+        "self.core.core.give(above, count - 1 - position)?"),
+    Bug("a budget is never filled again", "budget.rs",
+        "now.since(at).as_secs_f64() * self.rate", "now.since(at).as_secs_f64() * 0.0"),
+    Bug("what is final stays among what waits", "intake/mod.rs",
+        "desk.settle(txs)?;", ""),
+    Bug("receipts that were lost are not told again", "gossip.rs",
+        "self.tell_again()?;", ""),
+    Bug("a peer is not told again on a new connection", "gossip.rs",
+        "self.last[peer as usize] = 0;", ""),
+    Bug("what a block names does not arrive", "intake/mod.rs",
+        "self.receiving(desk, |desk| desk.accepted(data))?;", ""),
+    Bug("what a proposal claims is believed", "turns.rs",
+        "self.core.core.would_change(it)?", "true", "--deeds split --burst 400"),
+    Bug("a client hears ok before its transaction is durable", "receive.rs",
+        "matches!(standing, Standing::Arrived | Standing::Final)", "standing != Standing::Unknown"),
+    Bug("views end before blocks show what is final", "hold.rs",
+        "self.commit == 0", "self.commit < u32::MAX"),
+    Bug("a held proposal is never released", "hold.rs",
+        "self.is_needed || wish.is_wanted && wish.is_due",
+        "self.is_needed || wish.is_wanted && wish.idle_views > 5"),
+    Bug("messages to itself are lost in a group", "turns.rs",
+        "std::mem::take(&mut self.turns.to_self).into_iter();",
+        "std::mem::take(&mut self.turns.to_self).into_iter().skip(usize::from(PLANTED));"),
+    Bug("receipts are stamped before the clocks of peers were heard", "intake/mod.rs",
+        "place.quorum() <= 1", "true"),
+    Bug("receipts of a peer are heard in the reverse order", "intake/mod.rs",
+        "        for it in receipts {",
+        "        let mut receipts = receipts.to_vec();\n"
+        "        if PLANTED { receipts.reverse(); }\n        for it in &receipts {"),
+    Bug("a vote that came before its block is lost", "follow.rs",
+        "self.orphans.keep(it);", ""),
+    Bug("votes are taken for those of another leader", "guards/fit.rs",
+        "place.leader_of(view + 1)", "place.leader_of(view)"),
+    Bug("a refusal without a fault costs its peer nothing", "guards/allowance.rs",
+        "self.wasted.spend(seals_in(size) as f64, now);", "", "--deeds waste"),
+    Bug("what is carried over waits for admission", "of_sessions.rs",
+        "self.first = carried;", "", "--sessions 3"),
+    Bug("what is carried over is not stored", "sessions/change.rs",
+        "self.carried_from(session)", "Vec::new()", "--sessions 3"),
+    Bug("void batches count", "engine.rs",
+        "            if self.is_cut() {\n                break;",
+        "            if self.is_cut() && !PLANTED {\n                break;", "--sessions 3"),
+    Bug("something arrives after the cut", "turns.rs",
+        "        if self.is_cut() {\n            return Ok(Vec::new());",
+        "        if self.is_cut() && !PLANTED {\n            return Ok(Vec::new());", "--sessions 3"),
+    Bug("one peer's word brings the marker", "sessions/running.rs",
+        "self.marked_by.count_ones() > f", "self.marked_by != 0",
+        "--sessions 3 --deeds early-marker"),
+    Bug("a key is taken from any peer", "sessions/running.rs",
+        "if replica == peer && !", "if (replica == peer || PLANTED) && !",
+        "--sessions 3 --deeds two-keys"),
+    Bug("the last key that is shown counts", "sessions/keys.rs",
+        "parts[part].get_or_insert(payload);", "parts[part] = Some(payload);",
+        "--sessions 3 --deeds two-keys"),
+    Bug("one peer's history is believed", "sessions/behind.rs",
+        "count(it) > self.f", "count(it) > 0", "--sessions 3 --deeds false-history"),
+    Bug("what waits at a cut is forgotten", "sessions/change.rs",
+        "engine.resume(&waiting, clients)?;",
+        "engine.resume(&[], clients)?; drop(waiting);", "--sessions 3"),
+]
+
+# Guards that are turned off: what finds each is a test of the engine.
+GUARDS = [
+    Bug("statuses have no budget", "receive.rs",
+        "self.allowances[at].takes_status(now)", "true"),
+    Bug("receipts have no budget", "receive.rs",
+        "self.allowances[at].takes_receipts(receipts.len(), now)", "true"),
+    Bug("refusals have no budget", "follow.rs",
+        "self.allowances[from as usize].refused(kind, reason, data.len(), now);", ""),
+    Bug("seals of refused messages have no budget", "guards/allowance.rs",
+        "self.wasted.spend(seals_in(size) as f64, now);", ""),
+    Bug("the core gets what no honest replica sends", "receive.rs",
+        "!is_fit(&self.place, peer, &data)", "false"),
+    Bug("messages have no greatest size", "guards/fit.rs",
+        "data.len() > wire::max_size(kind, place.n)", "data.len() > (1 << 30)"),
+    Bug("messages are taken by peer, and not as they came", "inbox.rs",
+        "Some((it.front()?.number, peer))", "Some((0 * it.front()?.number, peer))"),
+    Bug("a peer may fill a group", "inbox.rs",
+        "if is_slowed(peer) { 0 } else { MAX_OF_PEER }", "if is_slowed(peer) { 0 } else { 32 }"),
+    Bug("a peer that is slowed is heard", "inbox.rs",
+        "if is_slowed(peer) { 0 } else { MAX_OF_PEER }", "is_slowed(peer); MAX_OF_PEER"),
+    Bug("a vote that came before its block is lost", "follow.rs",
+        "self.orphans.keep(it);", ""),
+    Bug("what a proposal claims is believed", "turns.rs",
+        "self.core.core.would_change(it)?", "true"),
+    Bug("early Asks are delivered", "receive.rs",
+        "self.options.hold_asks", "false"),
+    Bug("given blocks have no bound", "guards/given.rs",
+        "self.stored[peer as usize] < self.views", "true"),
+    Bug("proposed blocks are taken again", "follow.rs",
+        "wire::proposed_block(&it.data).into_iter().for_each(|it| self.given.know(it));", ""),
+    Bug("Fetches have no budget", "receive.rs",
+        "self.allowances[at].fetches.take(1.0, now)", "true"),
+    Bug("requests for blocks have no budget", "receive.rs",
+        "let mut is_within = self.allowances[at].requests.take(1.0, now);",
+        "let mut is_within = PLANTED || self.allowances[at].requests.take(1.0, now);"),
+    Bug("clients have no bound", "receive.rs",
+        "self.intake.of_clients() + txs.len() > self.options.max_waiting", "false"),
+    Bug("receipts at a start have no bound", "intake/mod.rs",
+        "self.early_of(|it| it != self.place.me) < MAX_EARLY", "true"),
+    Bug("views are not paced", "engine.rs",
+        "self.pace.is_due(waiting, now)", "true"),
+]
