@@ -1,6 +1,8 @@
 //! Each row of the table, and crashes between the steps of a change of session.
 
 use std::fs;
+use std::thread::sleep;
+use std::time::Duration;
 
 use themis_engine::tx::Tx;
 use themis_store::{chain, Ended};
@@ -24,7 +26,15 @@ impl Folder {
         folder
     }
 
+    /// Opens it. A process that another test starts at this moment has a lock too that was just
+    /// released, until it is another program.
     fn open(&self) -> Result<Found, Failure> {
+        for _ in 0..100 {
+            match open(&self.0, &owner(), true) {
+                Err(it) if it.exit == Exit::LogInUse => sleep(Duration::from_millis(10)),
+                other => return other,
+            }
+        }
         open(&self.0, &owner(), true)
     }
 
