@@ -75,7 +75,7 @@ class Config:
     carried: str = ""               # transactions of the session before that were not final
     settled: str = ""               # those that were final in any session before
     timeout: float = 0.3            # least time without a new view before a tick
-    max_timeout: float = 30.0
+    max_timeout: float = 10.0
     interval: float = 0.0           # least time between proposals: saves views, costs latency
     hold: bool = True               # proposals wait while no transaction does
     share_after: float = 0.5        # time after which peers are told of waiting ones again

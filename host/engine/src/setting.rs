@@ -95,7 +95,7 @@ impl Default for Options {
     fn default() -> Options {
         Options {
             timeout: Duration::from_millis(300),
-            max_timeout: Duration::from_secs(30),
+            max_timeout: Duration::from_secs(10),
             interval: Duration::ZERO,
             hold: true,
             share_after: Duration::from_millis(500),
