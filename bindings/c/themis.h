@@ -178,7 +178,9 @@ uint32_t themis_record(themis_replica *replica, size_t position, uint8_t *into, 
 
 /* The turn on the event that was prepared first. AGAIN: the event has no record, and would now change the replica. It is no
  * longer prepared, and nothing else was done. Status: VACANT, UNREADY, HALTED, AGAIN, OK; NO_MEMORY for an event without a
- * record, also in place of AGAIN: it is still prepared. Where memory runs out in the turn on an event with a record, HALTED. */
+ * record, also in place of AGAIN: it is still prepared. Where memory runs out in the turn on an event with a record, HALTED: what the
+ * last turn gave is still there. A lack of memory changes nothing for bytes that are no message, for a message that is refused before
+ * a copy of it is made, and for a tick at the last view. */
 uint32_t themis_act(themis_replica *replica, uint32_t *reason);
 
 /* The messages that the last turn sends, in their order. Messages to the replica itself are among them, and are delivered like
@@ -276,8 +278,8 @@ uint32_t themis_accepted(themis_replica *replica, const uint8_t *bytes, size_t s
 
 /* What arrives now, at most 480, in the order in which the host passes them to themis_prepare_arrived, at the next event.
  * The last `given` of the `count` are exceptions: they arrive because the chain was stuck, whatever waits. The calls that follow
- * take all of them as arrived. Status: VACANT, SHORT where `room` is below 480, OK, NO_MEMORY: nothing has arrived then, and some
- * transactions of blocks may have been received. */
+ * take all of them as arrived. Status: VACANT, SHORT where `room` is below 480 (`count` is not written then), OK, NO_MEMORY: nothing
+ * has arrived then, and some transactions of blocks may have been received. */
 uint32_t themis_arrive(themis_replica *replica, themis_tx *into, size_t room, size_t *count, size_t *given);
 
 /* The same while a session is closing, where nothing more is to be received: only what blocks name and the certified chain proposes,

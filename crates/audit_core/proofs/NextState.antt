@@ -1,5 +1,5 @@
 -- The state of one pass after an entry that keeps the rules.
-use Rattle.std.proofs.Common.{◌≡◌, ℕ, ◌+◌, ◌<◌, ◌≤◌, List, [], ◌∷◌, ◌++◌, length, max, Bool, true, false, Option, Some, None, refl, sym, ap, subst, ◌∙◌, arith}
+use Rattle.std.proofs.Common.{◌≡◌, ℕ, ◌+◌, ◌<◌, List, [], ◌∷◌, ◌++◌, length, max, Bool, true, false, Option, Some, None, refl, sym, ap, subst, ◌∙◌, arith}
 use Rattle.std.specs.Prelude.{◌||◌, ◌==◌, if◌then◌else◌}
 use Rattle.std.proofs.lemmas.Bool.Decides.{nat_tests}
 use Rattle.seq_base.specs.declared.block.Block.{Block}
@@ -20,9 +20,7 @@ use Rattle.journal_rules.specs.Held.{SafeTied}
 use Rattle.journal_rules.specs.Stores.{at, IsTied}
 use Rattle.audit_core.specs.Stands.{AreAlike}
 use Rattle.journal_rules.proofs.Voters.{IsOneMore, voters_more}
-
-le_same : (n : ℕ) → n ≤ n
-le_same n = omega arith
+use Rattle.journal_rules.proofs.VoteTest.{le_same}
 
 -- ---- the stored blocks, the lock and the commit
 

@@ -7,20 +7,17 @@ use Rattle.std.proofs.lemmas.List.{same_lists, get_or_default}
 use Rattle.std.proofs.lemmas.List.Elements.{All-get_or}
 use Rattle.std.proofs.lemmas.Option.{slice_get_within, slice_get-get_or}
 use Rattle.seq_base.specs.declared.tx.Tx.{Tx}
-use Rattle.seq_base.proofs.Members.{same_members}
+use Rattle.seq_base.proofs.Members.{same_members, any_tx}
 use Rattle.seq_base.specs.Tx.{tx_cmp}
 use Rattle.majority_graph.specs.Graph.{Graph, IsGraph, IsComplete, HasEdge}
 use Rattle.batch_laws.specs.Batches.{IsLine, StandsIn, AreBatches}
 use Rattle.batch_laws.proofs.WalkJoins.{walk_same, walk_edge}
 use Rattle.batch_laws.proofs.Reachability.{same_numbers, same_count}
 
-some_tx : Tx
-some_tx = record { client = 0; number = 0; payload = 0 }
-
 -- the numbers of the lists that vertices are in are a line
 module _ (g : Graph) (graph : IsGraph g) (batches : List (List Tx)) (are : AreBatches g batches) where
   pick : (u : ℕ) → (u < length g.vertices) ⊎ (length g.vertices ≤ u) → ℕ
-  pick u (inl inside) = (are.each u (get_or g.vertices u some_tx) (slice_get-get_or g.vertices u some_tx inside)).0
+  pick u (inl inside) = (are.each u (get_or g.vertices u any_tx) (slice_get-get_or g.vertices u any_tx inside)).0
   pick u (inr past) = 0
 
   pub number_in : ℕ → ℕ
@@ -29,8 +26,8 @@ module _ (g : Graph) (graph : IsGraph g) (batches : List (List Tx)) (are : AreBa
   pick_is : (u i : ℕ) (a : Tx) (c : (u < length g.vertices) ⊎ (length g.vertices ≤ u)) → slice_get g.vertices u ≡ Some a → StandsIn batches i a → pick u c ≡ i
   unfolding pick
   pick_is u i a (inl inside) at stands =
-      let there = are.each u (get_or g.vertices u some_tx) (slice_get-get_or g.vertices u some_tx inside) in
-      (are.same u u there.0 i (get_or g.vertices u some_tx) a (slice_get-get_or g.vertices u some_tx inside) at there.2 stands).1
+      let there = are.each u (get_or g.vertices u any_tx) (slice_get-get_or g.vertices u any_tx inside) in
+      (are.same u u there.0 i (get_or g.vertices u any_tx) a (slice_get-get_or g.vertices u any_tx inside) at there.2 stands).1
       (walk_same (HasEdge g) u u refl, walk_same (HasEdge g) u u refl)
   pick_is u i a (inr past) at stands = absurd (omega (arith, slice_get_within g.vertices u a at))
 
@@ -45,26 +42,26 @@ module _ (g : Graph) (graph : IsGraph g) (batches : List (List Tx)) (are : AreBa
       let is : there.0 ≡ number_in u = sym (number_in_is u there.0 a at there.2) in
       (subst (λ (k : ℕ). k < length batches) is there.1, subst (λ (k : ℕ). StandsIn batches k a) is there.2)
 
-  vertex : (u : ℕ) → u < length g.vertices → slice_get g.vertices u ≡ Some (get_or g.vertices u some_tx)
-  vertex u inside = slice_get-get_or g.vertices u some_tx inside
+  vertex : (u : ℕ) → u < length g.vertices → slice_get g.vertices u ≡ Some (get_or g.vertices u any_tx)
+  vertex u inside = slice_get-get_or g.vertices u any_tx inside
 
   pub are_line : IsLine g number_in (length batches)
   are_line = record {
     numbering = record {
       rises = λ u v from to edge.
-          let one = stands_in u (get_or g.vertices u some_tx) (vertex u from) in
-          let other = stands_in v (get_or g.vertices v some_tx) (vertex v to) in
+          let one = stands_in u (get_or g.vertices u any_tx) (vertex u from) in
+          let other = stands_in v (get_or g.vertices v any_tx) (vertex v to) in
           elim (cases_lt (number_in v) (number_in u)) [
             | inl less ↦
-                let early = (are.earlier v u (number_in v) (number_in u) (get_or g.vertices v some_tx) (get_or g.vertices u some_tx) (vertex v to) (vertex u from) other.1 one.1).0 less in
+                let early = (are.earlier v u (number_in v) (number_in u) (get_or g.vertices v any_tx) (get_or g.vertices u any_tx) (vertex v to) (vertex u from) other.1 one.1).0 less in
                 absurd (early.1 (walk_edge (HasEdge g) u v edge))
             | inr low ↦ low
           ];
       same = λ u v from to.
-          are.same u v (number_in u) (number_in v) (get_or g.vertices u some_tx) (get_or g.vertices v some_tx) (vertex u from) (vertex v to)
-          (stands_in u (get_or g.vertices u some_tx) (vertex u from)).1 (stands_in v (get_or g.vertices v some_tx) (vertex v to)).1;
+          are.same u v (number_in u) (number_in v) (get_or g.vertices u any_tx) (get_or g.vertices v any_tx) (vertex u from) (vertex v to)
+          (stands_in u (get_or g.vertices u any_tx) (vertex u from)).1 (stands_in v (get_or g.vertices v any_tx) (vertex v to)).1;
     };
-    below = λ u inside. (stands_in u (get_or g.vertices u some_tx) (vertex u inside)).0;
+    below = λ u inside. (stands_in u (get_or g.vertices u any_tx) (vertex u inside)).0;
     used = λ c below.
         let a = are.some c below in
         let u = are.vertices c a.0 a.1 in

@@ -2,7 +2,8 @@
 use Rattle.std.proofs.Common.{◌+◌, ℕ, suc, zero, ◌≡◌, ◌<◌, ◌≤◌, List, [], ◌∷◌, length, get_or, Bool, true, false, refl, sym, ap, ◌∙◌, inl, inr, arith}
 use Rattle.std.specs.Prelude.{count_by, ◌⊎◌, ◌&&◌, ◌==◌, nat_lt}
 use Rattle.std.proofs.lemmas.Bool.{false_from_ne_true, cases_Bool, cases_lt, and_parts, and_from, and_right, eqb-true, eq-eqb, ltb-true, lt-ltb, le-ltb}
-use Rattle.batch_laws.proofs.Counts.{point, count-cons}
+use Rattle.seq_base.proofs.Points.{point}
+use Rattle.batch_laws.proofs.Counts.{count-cons}
 
 point_at_most : (a b : Bool) → (a ≡ true → b ≡ true) → point a ≤ point b
 point_at_most false b implies = omega arith

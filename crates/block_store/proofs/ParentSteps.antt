@@ -7,9 +7,11 @@ use Rattle.std.proofs.Math.Seq.{get_or-append_seam}
 use Rattle.std.proofs.lemmas.List.{append-nil}
 use Rattle.std.proofs.lemmas.List.Elements.{All-contains}
 use Rattle.std.proofs.lemmas.List.Folds.{find-append}
+use Rattle.std.proofs.lemmas.Option.{same_Some}
 use Rattle.seq_base.specs.declared.digest.Digest.{Digest}
 use Rattle.seq_base.specs.declared.block.Block.{Block}
 use Rattle.seq_base.specs.Blocks.{first_digest, digest_eq, digest_eq_decides, block_eq, block_eq_decides}
+use Rattle.seq_base.proofs.Options.{there, mapped}
 use Rattle.block_store.specs.Store.{block_digest, has_digest, block_at, is_stored, is_other, clashes, with_block}
 use Rattle.block_store.specs.Chains.{parent_of, reaches, extends, following, chain_of, Leads, Extends, Follow}
 use Rattle.block_store.specs.Entries.{IsStore}
@@ -42,18 +44,6 @@ contained p xs x place = (
   ap (λ l. get_or l (length place.before) x) place.is ∙ get_or-append_seam place.before x place.after x,
 )
 
--- an option that is present, and its value
-there : {X : Type 0} (o : Option X) → is_some o ≡ true → (x : X) × (o ≡ Some x)
-there None some = absurd (cc)
-there (Some x) some = (x, refl)
-
-mapped : {X Y : Type 0} (f : X → Y) (o : Option X) (y : Y) → option_map f o ≡ Some y → (x : X) × (o ≡ Some x) × (f x ≡ y)
-mapped f None y some = absurd (cc)
-mapped f (Some x) y some = (x, refl, cc)
-
-same_some : {X : Type 0} (x y : X) → Some x ≡ Some y → x ≡ y
-same_some x y same = cc
-
 -- what the first part of a list finds, the whole finds
 pub found_first : {X : Type 0} (p : X → Bool) (xs ys : List X) (x : X) → find p xs ≡ Some x → find p (xs ++ ys) ≡ Some x
 found_first {X} p xs ys x found = find-append p xs ys ∙ ap (λ (o : Option X). option_or o (find p ys)) found
@@ -82,7 +72,7 @@ module _ (store : List Block) (is : IsStore store) where
       let in_prefix : is_some (block_at before a) ≡ true = ap (λ (t : Bool). t || is_some (block_at before a)) (sym other) ∙ stored in
       let found = there (block_at before a) in_prefix in
       let whole : block_at store a ≡ Some found.0 = ap (λ (blocks : List Block). block_at blocks a) splits ∙ found_first (has_digest a) before rest found.0 found.1 in
-      let same : found.0 ≡ block.0 = same_some found.0 block.0 (sym whole ∙ block.1) in
+      let same : found.0 ≡ block.0 = same_Some found.0 block.0 (sym whole ∙ block.1) in
       let place = found_in (has_digest a) before found.0 found.1 in
       let apart : store ≡ place.before ++ found.0 ∷ (place.after ++ rest) = splits ∙ ap (λ (blocks : List Block). blocks ++ rest) place.is ∙ append_assoc place.before (found.0 ∷ place.after) rest in
       let after_it : is_stored place.before found.0.cert.block ≡ true = is.parents place.before found.0 (place.after ++ rest) apart in

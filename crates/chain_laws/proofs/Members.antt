@@ -6,7 +6,8 @@ use Rattle.std.proofs.lemmas.Bool.{cases_Bool}
 use Rattle.std.proofs.lemmas.List.{get_or-map, length-map}
 use Rattle.std.proofs.lemmas.List.Elements.{All-map, All-filter, All-contains, filter_passes}
 use Rattle.std.proofs.lemmas.List.Kept.{AllPairs-cons}
-use Rattle.batch_laws.proofs.Counts.{point, count-cons}
+use Rattle.seq_base.proofs.Points.{point}
+use Rattle.batch_laws.proofs.Counts.{count-cons}
 use Rattle.count_set.specs.Sets.{size_of, is_among, AreReplicas}
 use Rattle.count_set.proofs.Counts.{Contains-from_among}
 use Rattle.count_set.proofs.Pairs.{AllPairs-head, AllPairs-tail}
@@ -21,7 +22,7 @@ size_within zero xs ys within = omega arith
 size_within (suc n) xs ys within =
     omega (arith, size_within n xs ys (λ r below. within r (omega (arith, below))), point_within (xs n) (ys n) (within n (omega arith)))
 
-points_not : (a : Bool) → point (not a) + point a ≡ 1
+pub points_not : (a : Bool) → point (not a) + point a ≡ 1
 points_not true = refl
 points_not false = refl
 

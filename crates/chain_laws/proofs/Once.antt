@@ -9,8 +9,9 @@ use Rattle.std.specs.List.Sorted.{IsStrictlySortedBy}
 use Rattle.seq_base.specs.Tx.{tx_cmp, tx_eq, tx_eq_decides}
 use Rattle.seq_base.specs.Lists.{holds, listed}
 use Rattle.seq_base.specs.Setting.{Parameters, threshold_of}
+use Rattle.seq_base.proofs.Points.{point}
 use Rattle.batch_laws.specs.Batches.{StandsIn}
-use Rattle.batch_laws.proofs.Counts.{point, count-cons}
+use Rattle.batch_laws.proofs.Counts.{count-cons}
 use Rattle.batch_laws.proofs.WalkJoins.{walk_same}
 use Rattle.majority_graph.specs.Graph.{HasEdge}
 use Rattle.fair_laws.specs.Kept.{IsSolid, IsKept}

@@ -7,6 +7,7 @@ use Rattle.std.proofs.lemmas.Option.{slice_get_within, slice_get-get_or, get_or_
 use Rattle.seq_base.specs.declared.tx.Tx.{Tx}
 use Rattle.seq_base.specs.declared.order.SealedOrder.{SealedOrder}
 use Rattle.seq_base.specs.Setting.{Parameters, IsValid}
+use Rattle.seq_base.proofs.Members.{any_tx}
 use Rattle.majority_graph.specs.Graph.{Graph, IsGraph, IsComplete, edge_at}
 use Rattle.majority_graph.specs.Later.{HasFirstEdges}
 use Rattle.batch_laws.specs.Batches.{AreBatches}
@@ -35,9 +36,6 @@ pub record Finishes (s : Parameters) : Type 0 where
   pub graphs : (blocks : List BlockLists) → AreFreshBlocks blocks → All IsGraph (proposals s blocks)
   pub batches : (g : Graph) → IsGraph g → IsComplete g → AreBatches g (batches_of g)
   pub one_kept : (lists : List (List Tx)) (one other : List Tx) → AreKept s lists one → AreKept s lists other → one ≡ other
-
-any_tx : Tx
-any_tx = record { client = 0; number = 0; payload = 0 }
 
 -- of two graphs with the same vertices, where each pair has its first edge, both are complete or neither is
 same_complete : (s : Parameters) (blocks : List (List (List Tx))) (g h : Graph) → g.vertices ≡ h.vertices → HasFirstEdges s blocks g → HasFirstEdges s blocks h → IsComplete g → IsComplete h

@@ -8,6 +8,7 @@ use Rattle.std.proofs.lemmas.List.Folds.{list_any-append}
 use Rattle.seq_base.specs.declared.tx.Tx.{Tx}
 use Rattle.seq_base.specs.Lists.{holds}
 use Rattle.seq_base.specs.Setting.{Parameters}
+use Rattle.seq_base.proofs.Points.{or_false}
 use Rattle.majority_graph.specs.Graph.{Graph, IsGraph}
 use Rattle.fair_update.specs.Updates.{updated}
 use Rattle.fair_update.specs.Waiting.{is_complete}
@@ -18,7 +19,6 @@ use Rattle.chain_state.specs.Places.{put_all, still_pending, AreWithin}
 use Rattle.chain_state.specs.Standings.{Stage, stage_of, next_stage, stage_holds, stage_waits, Standings, applied}
 use Rattle.chain_state.specs.Standings.Stage.{Closed, Pending}
 use Rattle.chain_state.specs.Stepping.{AreMade, own_graph, steps_of}
-use Rattle.chain_state.proofs.ZippedLists.{or_false}
 use Rattle.chain_state.proofs.PendingPlaces.{pending_next, put_steps, steps_within, waits_next}
 use Rattle.chain_state.proofs.Stands.{stage-closed, stage-pending, stage_holds-of}
 

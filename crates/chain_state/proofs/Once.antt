@@ -1,5 +1,5 @@
 -- The final list of a chain of valid blocks holds no transaction twice.
-use Rattle.std.proofs.Common.{◌≡◌, ℕ, ◌+◌, ◌≤◌, List, [], ◌∷◌, ◌++◌, map, Bool, true, false, cond, refl, sym, ap, subst, ◌∙◌, inl, inr, arith}
+use Rattle.std.proofs.Common.{◌≡◌, ◌+◌, ◌≤◌, List, [], ◌∷◌, ◌++◌, map, true, false, refl, sym, ap, subst, ◌∙◌, inl, inr, arith}
 use Rattle.std.specs.Prelude.{All}
 use Rattle.std.specs.List.{AllByRecursion}
 use Rattle.std.proofs.lemmas.Bool.{cases_Bool, both_ways, false_from_ne_true, or_left, or_right, or_from}
@@ -11,6 +11,7 @@ use Rattle.seq_base.specs.declared.tx.Tx.{Tx}
 use Rattle.seq_base.specs.Lists.{AreDistinct, holds, listed}
 use Rattle.seq_base.specs.Setting.{Parameters}
 use Rattle.seq_base.specs.Tx.{tx_eq, tx_eq_decides}
+use Rattle.seq_base.proofs.Points.{point}
 use Rattle.majority_graph.specs.Graph.{Graph, IsGraph, IsComplete}
 use Rattle.batch_laws.specs.Reached.{batches_of}
 use Rattle.fair_laws.specs.Kept.{kept_by}
@@ -36,10 +37,6 @@ none_held P t [] lacking all = refl
 none_held P t (x ∷ xs) lacking all =
     or_from (tx_eq x t) (holds t xs) (false_from_ne_true (tx_eq x t) (λ same. lacking (subst P ((tx_eq_decides x t).0 same) all.0)))
     (none_held P t xs lacking all.1)
-
--- one for a list that counts
-abbrev point : Bool → ℕ
-point b = cond b 1 0
 
 none_listed : (P : Tx → Type 0) (t : Tx) (lists : List (List Tx)) → (P t → ⊥) → AllByRecursion (λ list. All P list) lists → listed lists t ≡ 0
 none_listed P t [] lacking all = refl

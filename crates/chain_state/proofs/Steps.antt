@@ -8,6 +8,7 @@ use Rattle.std.proofs.lemmas.List.Folds.{list_any-append}
 use Rattle.seq_base.specs.declared.tx.Tx.{Tx}
 use Rattle.seq_base.specs.Lists.{holds}
 use Rattle.seq_base.specs.Setting.{Parameters}
+use Rattle.seq_base.proofs.Points.{or_false}
 use Rattle.majority_graph.specs.Graph.{Graph}
 use Rattle.batch_laws.specs.Reached.{batches_of}
 use Rattle.fair_laws.specs.Kept.{kept_by, proposal_of}
@@ -15,7 +16,6 @@ use Rattle.fair_update.specs.Updates.{updated}
 use Rattle.fair_update.specs.Waiting.{is_complete}
 use Rattle.chain_state.specs.Lists.{BlockLists}
 use Rattle.chain_state.specs.Proposals.{graph_over, proposals, used_in, final_of}
-use Rattle.chain_state.proofs.ZippedLists.{or_false}
 use Rattle.chain_state.proofs.Tables.{graph_over-one, updated_is, graph_over-stays}
 
 abbrev late_of : BlockLists → List (List Tx)

@@ -11,6 +11,7 @@ use Rattle.seq_base.specs.declared.tx.Tx.{Tx}
 use Rattle.seq_base.specs.Lists.{holds}
 use Rattle.seq_base.specs.Tx.{tx_cmp, tx_eq, tx_eq_decides}
 use Rattle.seq_base.specs.Setting.{Parameters}
+use Rattle.seq_base.proofs.Members.{any_tx}
 use Rattle.majority_graph.specs.declared.edge.Edge.{Edge}
 use Rattle.majority_graph.specs.declared.edge.Edge.TheVariants.{To, From, Missing}
 use Rattle.majority_graph.specs.Edges.{edge_between, opposite_of}
@@ -112,9 +113,6 @@ pub has_first_edges : (s : Parameters) (vertices : List Tx) (blocks : List (List
 has_first_edges s vertices blocks u v a b from to =
     edge_at-graph_over s vertices blocks u v a (slice_get_within vertices u a from) (slice_get_within vertices v b to)
     ∙ ap₂ (first_edge s blocks) (get_or_from_slice_get vertices u a a from) (get_or_from_slice_get vertices v b a to)
-
-any_tx : Tx
-any_tx = record { client = 0; number = 0; payload = 0 }
 
 -- what a chain gives is a graph
 pub IsGraph-graph_over : (s : Parameters) (vertices : List Tx) (blocks : List (List (List Tx)))

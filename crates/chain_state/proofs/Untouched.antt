@@ -1,6 +1,6 @@
 -- A graph is unchanged where none of its waiting transactions is listed late.
 use Rattle.std.proofs.Common.{◌≡◌, ℕ, ◌+◌, ◌<◌, List, [], ◌∷◌, length, get_or, Bool, true, false, refl, sym, ap, subst, ◌∙◌, inl, inr, arith}
-use Rattle.std.specs.Prelude.{◌≢◌, ◌⊎◌, if◌then◌else◌}
+use Rattle.std.specs.Prelude.{if◌then◌else◌}
 use Rattle.std.specs.List.{list_any}
 use Rattle.std.proofs.lemmas.Bool.{or_parts, cases_eq}
 use Rattle.std.proofs.lemmas.Bool.Decides.{nat_tests}
@@ -9,16 +9,16 @@ use Rattle.seq_base.specs.declared.tx.Tx.{Tx}
 use Rattle.seq_base.specs.Lists.{holds}
 use Rattle.seq_base.specs.Tx.{tx_eq}
 use Rattle.seq_base.specs.Setting.{Parameters}
-use Rattle.seq_base.proofs.Members.{place_holds}
+use Rattle.seq_base.proofs.Members.{place_holds, any_tx}
 use Rattle.majority_graph.specs.declared.edge.Edge.{Edge}
-use Rattle.majority_graph.specs.declared.edge.Edge.TheVariants.{To, From, Missing}
+use Rattle.majority_graph.specs.declared.edge.Edge.TheVariants.{Missing}
 use Rattle.majority_graph.specs.Edges.{edge_between, gives_edge, opposite_of, outweighs}
 use Rattle.majority_graph.specs.Graph.{Graph, IsGraph, edge_at}
 use Rattle.majority_graph.specs.Later.{or_edge}
 use Rattle.majority_graph.specs.Weights.{ranks_above, weight}
 use Rattle.fair_update.specs.Updates.{updated}
 use Rattle.fair_update.specs.Waiting.{waits, waiting_of}
-use Rattle.fair_update.proofs.AnyGraph.{edge_at-updated, IsGraph-updated, same_graph}
+use Rattle.fair_update.proofs.AnyGraph.{edge_at-updated, IsGraph-updated, same_graph, missing_or_given}
 use Rattle.fair_update.proofs.GraphTests.{waits_decides}
 use Rattle.fair_update.proofs.Given.{edge_between-self, given_is_left}
 use Rattle.chain_state.proofs.ZippedLists.{none_at}
@@ -49,14 +49,6 @@ edge_between-none s lists u v one other =
     let forward : gives_edge s lists u v ≡ false = rw (weight_none lists u v one) (no_weight _ (weight lists v u) _) in
     let backward : gives_edge s lists v u ≡ false = rw (weight_none lists v u other) (no_weight _ (weight lists u v) _) in
     rw (forward, backward) refl
-
-missing_or_given : (e : Edge) → (e ≡ Missing) ⊎ (e ≢ Missing)
-missing_or_given To = inr (λ same. absurd (cc))
-missing_or_given From = inr (λ same. absurd (cc))
-missing_or_given Missing = inl refl
-
-any_tx : Tx
-any_tx = record { client = 0; number = 0; payload = 0 }
 
 module _ (s : Parameters) (late : List (List Tx)) (g : Graph) (graph : IsGraph g) (untouched : list_any (λ t. list_any (holds t) late) (waiting_of g) ≡ false) where
   -- a vertex of a missing pair is not listed

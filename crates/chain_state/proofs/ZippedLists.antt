@@ -23,10 +23,6 @@ pub any_agree : {A : Type 0} (p q : A → Bool) → ((x : A) → p x ≡ q x) �
 any_agree p q same [] = refl
 any_agree p q same (x ∷ xs) = rw (same x, any_agree p q same xs) refl
 
-pub or_false : (b : Bool) → (b || false) ≡ b
-or_false true = refl
-or_false false = refl
-
 pub eq_self : (t : Tx) → tx_eq t t ≡ true
 eq_self t = (tx_eq_decides t t).1 refl
 

@@ -10,20 +10,12 @@ use Rattle.seq_base.specs.declared.digest.Digest.{Digest}
 use Rattle.seq_base.specs.declared.block.Block.{Block}
 use Rattle.seq_base.specs.Blocks.{first_digest, digest_eq, digest_eq_decides}
 use Rattle.seq_base.specs.Setting.{Parameters}
+use Rattle.seq_base.proofs.Options.{there, or_none}
 use Rattle.block_store.specs.Store.{block_digest, has_digest, block_at, is_stored, is_other, clashes, with_block}
 use Rattle.block_store.specs.Chains.{following, chain_of}
 use Rattle.chain_state.specs.Lists.{lists_of}
 use Rattle.chain_state.specs.Standings.{Standings, applied, standing_for}
 use Rattle.chain_store.specs.Chains.{Stored, Kept, IsOf, AreOf, LeadBack, block_on, chain_state_of}
-
--- an option that has a value
-there : {X : Type 0} (o : Option X) → is_some o ≡ true → (x : X) × (o ≡ Some x)
-there None some = absurd (cc)
-there (Some x) some = (x, refl)
-
-or_none : {X : Type 0} (o : Option X) → option_or o None ≡ o
-or_none None = refl
-or_none (Some x) = refl
 
 -- a stored block: the first one, or one that is found
 stored_cases : (store : List Block) (d : Digest) (P : Type 0) → is_stored store d ≡ true → (d ≡ first_digest → P) → ((x : Block) → block_at store d ≡ Some x → P) → P

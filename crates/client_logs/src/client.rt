@@ -80,14 +80,17 @@ fn submit_to_each<R: Wait>(
 
 /// Exchanges what a pass and the pass at an index have seen.
 fn report_at(logs: &[SharedLog], passes: &mut Vec<LogPass>, k: usize, driver: &mut LogPass)
+    // The index is that of a log and its pass, and the driver is a pass of that log too.
     requires place { (k < length logs.now) × (k < length passes.old.items) }
     requires own { AllZip IsPassOf logs.now passes.old.items }
     requires driver { (d : Opened) → IsPassOf (get_or logs.now k d) driver.old }
     requires parts { 2 ≤ driver.old.parts }
+    // That pass has seen more, and all others are as before.
     ensures looked { (d : Known Tx) → HasLooked (get_or passes.old.items k d) (get_or passes.new.items k d) }
     ensures set { (d : Known Tx) → passes.new.items ≡ slice_set passes.old.items k (get_or passes.new.items k d) }
     ensures arrivals { (d : Known Tx) → IsArrivals (get_or passes.new.items k d).seen }
     ensures own { AllZip IsPassOf logs.now passes.new.items }
+    // So has the driver, which has seen all that the pass has.
     ensures heard { HasLooked driver.old driver.new }
     ensures reported { (d : Known Tx) → IsPrefix (get_or passes.new.items k d).seen driver.new.seen }
 {
@@ -112,13 +115,16 @@ impl Client {
 
     /// Exchanges what a pass and the client's pass of the log at an index have seen.
     pub fn report(&mut self, logs: &[SharedLog], k: usize, driver: &mut LogPass)
+        // The index is that of one of its logs, and the driver is a pass of that log too.
         requires of { OfClient logs.now self.old }
         requires place { k < length logs.now }
         requires driver { (d : Opened) → IsPassOf (get_or logs.now k d) driver.old }
         requires parts { 2 ≤ driver.old.parts }
+        // Its passes have seen more, and nothing else changes.
         ensures of { OfClient logs.now self.new }
         ensures same { (self.new.id ≡ self.old.id) × (self.new.count ≡ self.old.count) × (self.new.next ≡ self.old.next) × (self.new.fault ≡ self.old.fault) }
         ensures seen { AllZip SeenMore self.old.passes.items self.new.passes.items }
+        // So has the driver, which has seen all that the pass has.
         ensures heard { HasLooked driver.old driver.new }
         ensures reported { (d : Known Tx) → IsPrefix (get_or self.new.passes.items k d).seen driver.new.seen }
     {

@@ -178,7 +178,7 @@ unfolding seven
 header_fits log fits =
     subst (λ (ns : List ℕ). AllByRecursion (λ number. number < 2 ^ 32) ns) (seven_are log) (numbers_fit 7 (take 28 (drop 8 log)) (IsBytes-take 28 (drop 8 log) (IsBytes-drop 8 log fits)))
 
-fits_of : (bytes : List ℕ) → All (λ b. b < 256) bytes → IsBytes bytes
+pub fits_of : (bytes : List ℕ) → All (λ b. b < 256) bytes → IsBytes bytes
 fits_of bytes each = λ i. elim (cases_lt i (length bytes)) [ inl lt ↦ each i 0 lt | inr le ↦ rw (get_or_past bytes i 0 le) (omega arith) ]
 
 pub owner_is : (log : List ℕ) → All (λ b. b < 256) log → HasOwner log → IsHeaded log

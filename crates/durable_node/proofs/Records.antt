@@ -3,23 +3,21 @@ use Rattle.std.proofs.Common.{◌≡◌, ◌⊎◌, ℕ, zero, suc, ◌+◌, ◌
 use Rattle.std.specs.Int.{w32, from_be_bytes, to_be_bytes}
 use Rattle.std.specs.List.{flat_map}
 use Rattle.std.specs.Prelude.{All, Result, Ok, Err, IfOk, IfSome}
-use Rattle.std.proofs.lemmas.Bool.{cases_lt, eqb-true, eq-eqb}
-use Rattle.std.proofs.lemmas.List.{nil_from_length, take-append-drop, length-take, length-drop, get_or_past, get_or-take, get_or-drop, append-nil}
+use Rattle.std.proofs.lemmas.Bool.{eqb-true, eq-eqb}
+use Rattle.std.proofs.lemmas.List.{nil_from_length, take-append-drop, length-take, length-drop, get_or-take, get_or-drop, append-nil}
 use Rattle.std.proofs.lemmas.Nat.{from_be_bytes-to_be_bytes_4}
 use Rattle.seq_base.specs.declared.tx.Tx.{Tx}
 use Rattle.seq_base.specs.Spelling.{tx_spelling}
 use Rattle.wire_view.specs.Reading.{txs_in}
 use Rattle.wire_view.proofs.Exact.{IsBytes}
 use Rattle.wire_view.proofs.FieldLaws.{IsBytes-take, IsBytes-drop, wide32}
-use Rattle.wire_view.proofs.Lists.{length-txs_in, txs_spelled, txs_again}
+use Rattle.wire_view.proofs.Lists.{length-txs_in, txs_spelled, txs_again, joined}
 use Rattle.node_core.specs.declared.event.Event.{Event}
 use Rattle.node_core.specs.declared.event.Event.TheVariants.{Arrived, Deliver, Tick}
 use Rattle.durable_node.specs.Check.{next_digest}
 use Rattle.durable_node.specs.Log.{CanBeKept, HasBody, HasSize, IsCut, IsNarrow, IsNext, arrived_in, body_at, body_of, body_size, delivered_in, event_in, event_of_kind, framed, record_of, size_at, tick_in}
 use Rattle.durable_node.proofs.Frames.{fits_in, framed_back, framed_in, whole_of}
-
-joined : (a b c d : List ℕ) → a ≡ b → c ≡ d → a ++ c ≡ b ++ d
-joined a b c d e f = ap (λ (x : List ℕ). x ++ c) e ∙ ap (λ (x : List ℕ). b ++ x) f
+use Rattle.durable_node.proofs.Headers.{fits_of}
 
 -- ---- tests
 
@@ -68,9 +66,6 @@ delivered_spelled (from ∷ bytes) each fits e h =
     let small : from % 256 ≡ from = omega arith in
     let all : All (λ b. b < 256) bytes = λ i d less. each (suc i) d (omega (arith, less)) in
     spells_as (2 ∷ from ∷ bytes) (Deliver from bytes) e h (ap (λ (k : ℕ). 2 ∷ k ∷ bytes) small, (lt, all))
-
-fits_of : (bytes : List ℕ) → All (λ b. b < 256) bytes → IsBytes bytes
-fits_of bytes each = λ i. elim (cases_lt i (length bytes)) [ inl lt ↦ each i 0 lt | inr le ↦ rw (get_or_past bytes i 0 le) (omega arith) ]
 
 spelled_kind : (kind : ℕ) (rest : List ℕ) → All (λ b. b < 256) rest → (e : Event) → event_of_kind kind rest ≡ Some e → Spells (kind ∷ rest) e
 spelled_kind kind rest each e h =

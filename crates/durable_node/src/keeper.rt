@@ -44,14 +44,17 @@ pub trait Keeper: Drop {
         requires idle { begun self.old ≡ false }
         requires countable { openings self.old < 2 ^ 64 - 1 }
         requires within { size ≤ length (bytes self.old) }
+        // The bytes up to the size are left, all durable, and the keeper is open.
         ensures cut { OnOk result (bytes self.new ≡ take size (bytes self.old)) }
         ensures durable_size { OnOk result (durable_size self.new ≡ size) }
         ensures begun { OnOk result (begun self.new ≡ true) }
         ensures opened { OnOk result (openings self.new ≡ openings self.old + 1) }
+        // A refused call leaves it closed. Of the bytes up to the size, all stay, and those that were durable still are.
         ensures refused { OnErr result (Stays size (bytes self.old) (bytes self.new)) }
         ensures falls { OnErr result (min size (durable_size self.old) ≤ durable_size self.new) }
         ensures idle { OnErr result (begun self.new ≡ false) }
         ensures unopened { OnErr result (openings self.new ≡ openings self.old) }
+        // It fails only where the count of faults rises.
         ensures later { faults self.old ≤ faults self.new }
         ensures cause { result ≡ Err KeepFault.Failed → faults self.old < faults self.new };
 

@@ -128,7 +128,8 @@ impl<S: Sealer, K: Keeper> DurableNode<S, K> {
         ensures replica { IfOk result (λ kept. S.replica kept.node.sealer ≡ S.replica sealer) }
         ensures durable_size { IfOk result (λ kept. K.durable_size kept.keeper ≡ length (K.bytes kept.keeper)) }
         ensures openings { IfOk result (λ kept. K.openings kept.keeper ≡ K.openings keeper + 1) }
-        ensures running { IfOk result (λ kept. kept.closed ≡ false) }
+        ensures open { IfOk result (λ kept. kept.closed ≡ false) }
+        ensures running { IfOk result (λ kept. kept.node.halted ≡ false) }
         ensures later { IfOk result (λ kept. K.faults keeper ≤ K.faults kept.keeper) }
         // The log of another owner is always refused, and its own never for that reason.
         ensures own { IfErr result (λ e. IsRefusal (header_of setting views (S.replica sealer) (height_number height) keys.now) (K.bytes keeper) e.1) }
@@ -217,7 +218,6 @@ impl<S: Sealer, K: Keeper> DurableNode<S, K> {
         }
     }
 
-    /// The node.
     pub fn node(&self) -> &Node<S>
         ensures { result.now ≡ self.now.node }
     {
@@ -260,21 +260,25 @@ fn keep_and_turn<S: Sealer, C: Checker, K: Keeper>(
 ) -> Result<Turned, KeptFault>
     requires short { IsShort event.now }
     requires begun { K.begun keeper.old ≡ true }
+    // The turn that was made, and the log with its event, all durable.
     ensures ok { IfOk result (λ t. turn_of (C.meaning checker.now) (S.gives node.old.sealer) node.old.state event.now
         ≡ record { reported = t; state = node.new.state }) }
     ensures readable { OnOk result (IsReadable event.now) }
     ensures kept { OnOk result (K.bytes keeper.new ≡ K.bytes keeper.old ++ record_of digest.old event.now) }
     ensures digest { OnOk result (digest.new ≡ next_digest digest.old (body_of event.now)) }
     ensures durable_size { OnOk result (K.durable_size keeper.new ≡ length (K.bytes keeper.new)) }
+    // How far a refused call got in the log. Durable bytes stay durable.
     ensures refused { OnErr result (Grew (record_of digest.old event.now) (K.bytes keeper.old) (K.bytes keeper.new)) }
     ensures can { OnOk result (CanBeKept event.now) }
     ensures tried { OnErr result (HasTried digest.old event.now (K.bytes keeper.old) (K.bytes keeper.new)) }
     ensures keeps { K.durable_size keeper.old ≤ K.durable_size keeper.new }
+    // Where the keeper failed, the node is as before. The keeper stays open, and the sealer stays that of the replica.
     ensures unkept { result ≡ Err KeptFault.Keep → node.new ≡ node.old }
     ensures openings { K.openings keeper.new ≡ K.openings keeper.old }
     ensures begun { K.begun keeper.new ≡ true }
     ensures gives { S.gives node.new.sealer ≡ S.gives node.old.sealer }
     ensures replica { S.replica node.new.sealer ≡ S.replica node.old.sealer }
+    // Why it fails: the keeper failed and its count of faults rose, or memory ran out.
     ensures cause { result ≡ Err KeptFault.Keep → K.faults keeper.old < K.faults keeper.new }
     ensures later { K.faults keeper.old ≤ K.faults keeper.new }
     ensures unclosed { result ≡ Err KeptFault.Closed → ⊥ }
@@ -297,20 +301,25 @@ pub fn keep_event<K: Keeper>(
 ) -> Result<(), KeptFault>
     requires short { IsShort event.now }
     requires begun { K.begun keeper.old ≡ true }
+    // The log with the event, all durable.
     ensures kept { OnOk result (K.bytes keeper.new ≡ K.bytes keeper.old ++ record_of digest.old event.now) }
     ensures digest { OnOk result (digest.new ≡ next_digest digest.old (body_of event.now)) }
     ensures durable_size { OnOk result (K.durable_size keeper.new ≡ length (K.bytes keeper.new)) }
     ensures can { OnOk result (CanBeKept event.now) }
+    // How far a refused call got in the log. Durable bytes stay durable, and the keeper stays open.
     ensures refused { OnErr result (Grew (record_of digest.old event.now) (K.bytes keeper.old) (K.bytes keeper.new)) }
     ensures tried { OnErr result (HasTried digest.old event.now (K.bytes keeper.old) (K.bytes keeper.new)) }
     ensures keeps { K.durable_size keeper.old ≤ K.durable_size keeper.new }
     ensures openings { K.openings keeper.new ≡ K.openings keeper.old }
     ensures begun { K.begun keeper.new ≡ true }
+    // Why it fails: the keeper failed and its count of faults rose, or memory ran out.
     ensures cause { result ≡ Err KeptFault.Keep → K.faults keeper.old < K.faults keeper.new }
     ensures later { K.faults keeper.old ≤ K.faults keeper.new }
     ensures unclosed { result ≡ Err KeptFault.Closed → ⊥ }
     ensures no_log { (at : ℕ) → result ≡ Err (KeptFault.BadLog at) → ⊥ }
     ensures device { IfErr result IsDeviceFault }
+    // The running digest moves on with Ok alone.
+    ensures stays { OnErr result (digest.new ≡ digest.old) }
 {
     let Record {
         bytes,
@@ -344,12 +353,15 @@ fn act<S: Sealer, C: Checker>(
 #[tactic(auto, using(crate::proofs::Grown::grew_all, crate::proofs::Grown::grew_nothing))]
 pub(crate) fn keep<K: Keeper>(keeper: &mut K, bytes: &[u8]) -> Result<(), KeptFault>
     requires begun { K.begun keeper.old ≡ true }
+    // The bytes with these after them, all durable.
     ensures kept { OnOk result (K.bytes keeper.new ≡ K.bytes keeper.old ++ bytes.now) }
     ensures durable_size { OnOk result (K.durable_size keeper.new ≡ length (K.bytes keeper.new)) }
+    // How far a refused call got. Durable bytes stay durable, and the keeper stays open.
     ensures refused { OnErr result (Grew bytes.now (K.bytes keeper.old) (K.bytes keeper.new)) }
     ensures keeps { K.durable_size keeper.old ≤ K.durable_size keeper.new }
     ensures openings { K.openings keeper.new ≡ K.openings keeper.old }
     ensures begun { K.begun keeper.new ≡ true }
+    // Why it fails: the keeper failed and its count of faults rose, or memory ran out.
     ensures cause { result ≡ Err KeptFault.Keep → K.faults keeper.old < K.faults keeper.new }
     ensures later { K.faults keeper.old ≤ K.faults keeper.new }
     ensures unclosed { result ≡ Err KeptFault.Closed → ⊥ }

@@ -83,7 +83,7 @@ impl MemKeeper {
         self.openings
     }
 
-    /// All its bytes.
+    /// All its bytes, durable or not.
     pub fn bytes(&self) -> &[u8]
         ensures { result.now ≡ self.now.bytes }
     {

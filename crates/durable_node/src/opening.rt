@@ -43,6 +43,7 @@ pub fn opened<S: Sealer, C: Checker, K: Keeper>(
         keys.now (K.bytes keeper.old) (K.bytes keeper.new) o.1 o.0.state) }
     ensures gives { IfOk result (λ o. S.gives o.0.sealer ≡ S.gives sealer) }
     ensures replica { IfOk result (λ o. S.replica o.0.sealer ≡ S.replica sealer) }
+    ensures running { IfOk result (λ o. o.0.halted ≡ false) }
     ensures durable_size { OnOk result (K.durable_size keeper.new ≡ length (K.bytes keeper.new)) }
     ensures openings { OnOk result (K.openings keeper.new ≡ K.openings keeper.old + 1) }
     ensures begun { OnOk result (K.begun keeper.new ≡ true) }
@@ -86,11 +87,13 @@ pub fn new_log<K: Keeper>(
     requires empty { K.bytes keeper.old ≡ [] }
     requires idle { K.begun keeper.old ≡ false }
     requires countable { K.openings keeper.old < 2 ^ 64 - 1 }
+    // The log with its header, and its running digest. All of it is durable, and the keeper is open.
     ensures kept { OnOk result (K.bytes keeper.new ≡ header_of setting views replica (height_number height) keys.now) }
     ensures digest { IfOk result (λ digest. digest ≡ header_digest (header_of setting views replica (height_number height) keys.now)) }
     ensures durable_size { OnOk result (K.durable_size keeper.new ≡ length (K.bytes keeper.new)) }
     ensures openings { OnOk result (K.openings keeper.new ≡ K.openings keeper.old + 1) }
     ensures begun { OnOk result (K.begun keeper.new ≡ true) }
+    // A refused call leaves the keeper closed: it failed and its count of faults rose, or memory ran out.
     ensures idle { OnErr result (K.begun keeper.new ≡ false) }
     ensures cause { result ≡ Err KeptFault.Keep → K.faults keeper.old < K.faults keeper.new }
     ensures later { K.faults keeper.old ≤ K.faults keeper.new }
@@ -140,20 +143,25 @@ fn begin_after<K: Keeper>(
     size: usize,
     whole: usize,
 ) -> Result<(), KeptFault>
+    // The header is that of the log, and the whole records lie within it.
     requires sized { length header.now ≡ 76 }
     requires own { IsOwn header.now (K.bytes keeper.old) }
     requires size { size ≡ length (K.bytes keeper.old) }
     requires within { whole ≤ length (records_in (K.bytes keeper.old)) }
+    // The keeper is closed, and can count one opening more.
     requires idle { K.begun keeper.old ≡ false }
     requires countable { K.openings keeper.old < 2 ^ 64 - 1 }
+    // The header and the whole records are left, all durable, and the keeper is open.
     ensures kept { OnOk result (K.bytes keeper.new ≡ header.now ++ take whole (records_in (K.bytes keeper.old))) }
     ensures durable_size { OnOk result (K.durable_size keeper.new ≡ length (K.bytes keeper.new)) }
     ensures openings { OnOk result (K.openings keeper.new ≡ K.openings keeper.old + 1) }
     ensures begun { OnOk result (K.begun keeper.new ≡ true) }
+    // A refused call leaves the keeper closed. The whole records stay, or a torn header is still torn, or whole.
     ensures idle { OnErr result (K.begun keeper.new ≡ false) }
     ensures unopened { OnErr result (IsUnopened header.now (K.bytes keeper.old) (K.openings keeper.old) (K.openings keeper.new)) }
     ensures refused { (events : List Event) → IsWholePrefix (header_digest header.now) (records_in (K.bytes keeper.old)) events whole
         → OnErr result (IsHeldBack header.now (K.bytes keeper.old) (K.bytes keeper.new) (K.durable_size keeper.old) (K.durable_size keeper.new)) }
+    // Why it fails: the keeper failed and its count of faults rose, or memory ran out.
     ensures cause { result ≡ Err KeptFault.Keep → K.faults keeper.old < K.faults keeper.new }
     ensures later { K.faults keeper.old ≤ K.faults keeper.new }
     ensures device { IfErr result IsDeviceFault }
@@ -170,14 +178,17 @@ fn begin_after<K: Keeper>(
 fn write_header<K: Keeper>(keeper: &mut K, header: &[u8]) -> Result<(), KeptFault>
     requires idle { K.begun keeper.old ≡ false }
     requires countable { K.openings keeper.old < 2 ^ 64 - 1 }
+    // The log is the header, all durable, and the keeper is open.
     ensures kept { OnOk result (K.bytes keeper.new ≡ header.now) }
     ensures durable_size { OnOk result (K.durable_size keeper.new ≡ length (K.bytes keeper.new)) }
     ensures openings { OnOk result (K.openings keeper.new ≡ K.openings keeper.old + 1) }
     ensures begun { OnOk result (K.begun keeper.new ≡ true) }
+    // A refused call leaves the keeper closed, after one opening at most. A prefix of the header is still one.
     ensures idle { OnErr result (K.begun keeper.new ≡ false) }
     ensures once { OnErr result ((K.openings keeper.old ≤ K.openings keeper.new) × (K.openings keeper.new ≤ K.openings keeper.old + 1)) }
     ensures torn { K.bytes keeper.old ≡ take (length (K.bytes keeper.old)) header.now
         → OnErr result (K.bytes keeper.new ≡ take (length (K.bytes keeper.new)) header.now) }
+    // Why it fails: the keeper failed and its count of faults rose, or memory ran out.
     ensures cause { result ≡ Err KeptFault.Keep → K.faults keeper.old < K.faults keeper.new }
     ensures later { K.faults keeper.old ≤ K.faults keeper.new }
     ensures device { IfErr result IsDeviceFault }
@@ -208,6 +219,7 @@ pub fn replayed<S: Sealer, C: Checker>(
         ≡ state_after (C.meaning checker.now) (S.gives sealer) (opening_state setting views (S.replica sealer) (S.capacity sealer)) events.now) }
     ensures gives { IfOk result (λ node. S.gives node.sealer ≡ S.gives sealer) }
     ensures replica { IfOk result (λ node. S.replica node.sealer ≡ S.replica sealer) }
+    ensures running { IfOk result (λ node. node.halted ≡ false) }
 {
     let mut node = Node::new(alloc, setting, views, sealer)?;
     for event in events {

@@ -10,6 +10,7 @@ use Rattle.seq_base.specs.declared.tx.Tx.{Tx}
 use Rattle.seq_base.specs.Lists.{holds, listed}
 use Rattle.seq_base.specs.Tx.{tx_cmp, tx_eq, tx_eq_decides}
 use Rattle.seq_base.specs.Setting.{Parameters, threshold_of, solid_of}
+use Rattle.seq_base.proofs.Points.{point}
 use Rattle.majority_graph.specs.declared.edge.Edge.{Edge}
 use Rattle.majority_graph.specs.declared.edge.Edge.TheVariants.{To, From, Missing}
 use Rattle.majority_graph.specs.Edges.{outweighs, gives_edge, edge_between, opposite_of}
@@ -19,7 +20,7 @@ use Rattle.majority_graph.specs.Weights.{ranks_above, weight}
 use Rattle.majority_graph.proofs.EdgeLaws.{edge_of_places, edge_opposite}
 use Rattle.majority_graph.proofs.Solid.{solid_edge, listed_is_weighed}
 use Rattle.batch_laws.proofs.WalkJoins.{walk_edge}
-use Rattle.batch_laws.proofs.Counts.{point, count-cons}
+use Rattle.batch_laws.proofs.Counts.{count-cons}
 use Rattle.fair_laws.specs.Kept.{IsSolid, GiveEdge, LeadsOn, IsKept}
 use Rattle.fair_laws.specs.Earlier.{holds_without_earlier, without_earlier, IsOwed}
 

@@ -8,6 +8,7 @@ use Rattle.std.proofs.lemmas.Option.{slice_get-get_or}
 use Rattle.std.proofs.lemmas.Slice.Zip.{length-zip, get_or-zip}
 use Rattle.seq_base.specs.declared.tx.Tx.{Tx}
 use Rattle.seq_base.specs.Setting.{Parameters}
+use Rattle.seq_base.proofs.Members.{any_tx}
 use Rattle.majority_graph.specs.declared.edge.Edge.{Edge}
 use Rattle.majority_graph.specs.declared.edge.Edge.TheVariants.{To, From, Missing}
 use Rattle.majority_graph.specs.Edges.{edge_between, opposite_of}
@@ -18,10 +19,7 @@ use Rattle.majority_graph.specs.Later.{or_edge}
 use Rattle.fair_update.specs.Updates.{updated_row, updated}
 use Rattle.fair_update.proofs.Given.{edge_between-self, given_is_left, opposite_given, turned_is_missing}
 
-any_tx : Tx
-any_tx = record { client = 0; number = 0; payload = 0 }
-
-missing_or_given : (e : Edge) → (e ≡ Missing) ⊎ (e ≢ Missing)
+pub missing_or_given : (e : Edge) → (e ≡ Missing) ⊎ (e ≢ Missing)
 missing_or_given To = inr (λ same. absurd (cc))
 missing_or_given From = inr (λ same. absurd (cc))
 missing_or_given Missing = inl refl

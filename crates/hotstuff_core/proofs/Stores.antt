@@ -6,6 +6,7 @@ use Rattle.std.proofs.lemmas.Bool.{or_cases, and_parts, ltb-true, eqb-true}
 use Rattle.seq_base.specs.declared.digest.Digest.{Digest}
 use Rattle.seq_base.specs.declared.block.Block.{Block}
 use Rattle.seq_base.specs.Blocks.{first_digest, digest_eq, digest_eq_decides, block_eq, block_eq_decides}
+use Rattle.seq_base.proofs.Options.{there, mapped}
 use Rattle.block_store.specs.Store.{block_digest, has_digest, block_at, is_stored, view_of}
 use Rattle.block_store.specs.Chains.{parent_of, extends, Leads, Extends}
 use Rattle.hotstuff_core.specs.History.{Vote, IsAncestor, IsThreeChain}
@@ -13,14 +14,6 @@ use Rattle.hotstuff_core.specs.Facts.{MeetsRule}
 use Rattle.hotstuff_core.specs.Rules.{State, view_at, is_at, is_safe, moved, is_next, head_if, next_commit}
 use Rattle.hotstuff_core.specs.Runs.{lock_after}
 use Rattle.hotstuff_core.specs.Deeds.{history_in, vote_for, IsLater}
-
-there : {X : Type 0} (o : Option X) → is_some o ≡ true → (x : X) × (o ≡ Some x)
-there None some = absurd (cc)
-there (Some x) some = (x, refl)
-
-mapped : {X Y : Type 0} (f : X → Y) (o : Option X) (y : Y) → option_map f o ≡ Some y → (x : X) × (o ≡ Some x) × (f x ≡ y)
-mapped f None y some = absurd (cc)
-mapped f (Some x) y some = (x, refl, cc)
 
 found_passes : {X : Type 0} (p : X → Bool) (xs : List X) (x : X) → find p xs ≡ Some x → p x ≡ true
 found_passes p [] x found = absurd (cc)

@@ -1,10 +1,11 @@
 -- A count of entries by their sources, one entry after the other.
-use Rattle.std.proofs.Common.{◌≡◌, ◌<◌, ◌≤◌, ◌+◌, ◌==◌, ◌^◌, ℕ, List, ◌∷◌, All, Bool, true, cond, ap, subst, ◌∙◌, inl, inr, arith, length, slice_set, slice_index_or, Fits, w64}
+use Rattle.std.proofs.Common.{◌≡◌, ◌<◌, ◌≤◌, ◌+◌, ◌==◌, ◌^◌, ℕ, List, ◌∷◌, All, true, cond, ap, subst, ◌∙◌, inl, inr, arith, length, slice_set, slice_index_or, Fits, w64}
 use Rattle.std.proofs.lemmas.Bool.{cases_Bool}
 use Rattle.std.proofs.lemmas.List.{length-set, get_or-set_same, get_or-set_other}
 use Rattle.std.proofs.lemmas.List.Elements.{All-head, All-tail}
 use Rattle.std.proofs.lemmas.List.Sums.{sum_by-cons, count_by-le-length}
 use Rattle.seq_base.specs.declared.tx.Tx.{Tx}
+use Rattle.seq_base.proofs.Points.{point}
 use Rattle.intake.specs.declared.slot.Slot.{Slot}
 use Rattle.intake.specs.Desk.{charged_in}
 
@@ -12,9 +13,6 @@ use Rattle.intake.specs.Desk.{charged_in}
 abbrev pub Counting : List ℕ → List (Tx × Slot) → List (Tx × Slot) → Type 0
 Counting charges rest held =
     (length charges ≡ 18) × ((s : ℕ) → s ≤ 17 → slice_index_or charges s 0 + charged_in s rest ≡ charged_in s held) × All (λ e. e.1.source ≤ 17) rest
-
-abbrev point : Bool → ℕ
-point b = cond b 1 0
 
 charged-cons : (s : ℕ) (e : Tx × Slot) (rest : List (Tx × Slot)) → charged_in s (e ∷ rest) ≡ point (e.1.source == s) + charged_in s rest
 charged-cons s e rest = sum_by-cons (λ (x : Tx × Slot). cond (x.1.source == s) 1 0) e rest

@@ -1,5 +1,5 @@
 -- What an intake lets arrive.
-use Rattle.std.proofs.Common.{◌≡◌, ◌≤◌, ◌+◌, ◌-◌, max, arith, ◌∷◌, [], List, ℕ, length, filter, Some, refl, sym, ap, ◌∙◌}
+use Rattle.std.proofs.Common.{◌≡◌, ◌≤◌, ◌+◌, ◌-◌, max, arith, ◌∷◌, [], List, ℕ, length, filter, Some, refl, sym, ap, subst, ◌∙◌}
 use Rattle.std.specs.Map.{keys_of}
 use Rattle.std.proofs.lemmas.List.{length-map}
 use Rattle.seq_base.specs.declared.tx.Tx.{Tx}
@@ -8,7 +8,7 @@ use Rattle.intake.specs.declared.slot.Bound.TheVariants.{All}
 use Rattle.intake.specs.Desk.{Desk, waiting}
 use Rattle.intake.specs.Keys.{k_of}
 use Rattle.intake.specs.Arriving.{arriving, arrived, comes}
-use Rattle.intake.specs.Offered.{HasArrived, given_all}
+use Rattle.intake.specs.Offered.{AreWaiting, HasArrived, given_all}
 use Rattle.intake.proofs.Named.{named_none}
 
 -- without a bound everything arrives
@@ -28,6 +28,7 @@ has_arrived_all old new txs given all none after = record {
   marked = new;
   named = named_none old;
   bounded = record { bound = Some All; extra = []; all = all; after = after };
+  waiting = subst (λ (l : List Tx). AreWaiting l new) (sym none) tt;
   excepted = ap (λ (l : List Tx). given_all l new) (sym none);
 }
 

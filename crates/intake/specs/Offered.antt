@@ -1,10 +1,10 @@
 -- What an intake lets arrive.
-use Rattle.std.specs.Prelude.{◌≡◌, ℕ, List, [], Bool, not, Option, Some, None, count_by, fold}
+use Rattle.std.specs.Prelude.{◌≡◌, ⊤, ℕ, List, [], ◌∷◌, Bool, true, not, Option, Some, None, count_by, fold}
 use Rattle.seq_base.specs.declared.tx.Tx.{Tx}
 use Rattle.intake.specs.declared.slot.Bound.{Bound}
 use Rattle.intake.specs.Desk.{Desk, arrived_list}
 use Rattle.intake.specs.Receiving.{received}
-use Rattle.intake.specs.Arriving.{arriving, arrived, given}
+use Rattle.intake.specs.Arriving.{arriving, arrived, given, is_waiting}
 
 -- how many have arrived that no block proposes
 abbrev pub unproposed : (Tx → Bool) → Desk → ℕ
@@ -16,6 +16,11 @@ named_all txs d = fold (λ now tx. received now.n tx now) d txs
 
 abbrev pub given_all : List Tx → Desk → Desk
 given_all txs d = fold (λ now tx. given tx now) d txs
+
+-- Each of them waits in its turn: none is final or has arrived, and none stands there twice.
+abbrev pub AreWaiting : List Tx → Desk → Type 0
+AreWaiting [] d = ⊤
+AreWaiting (tx ∷ more) d = (is_waiting tx d ≡ true) × AreWaiting more (given tx d)
 
 -- Without a bound nothing arrives.
 abbrev pub offered : Option Bound → List Tx → Desk → List Tx
@@ -38,10 +43,11 @@ pub record HasOffered (old : Desk) (txs : List Tx) (new : Desk) : Type 0 where
   pub all : txs ≡ offered bound extra old
   pub after : new ≡ after_offer bound extra old
 
--- Receipts from blocks, then what a bound lets arrive, then the exceptions.
+-- Receipts from blocks, then what a bound lets arrive, then exceptions that wait.
 pub record HasArrived (old : Desk) (txs exceptions : List Tx) (new : Desk) : Type 0 where
   pub held : Desk
   pub marked : Desk
   pub named : HasNamed old held
   pub bounded : HasOffered held txs marked
+  pub waiting : AreWaiting exceptions marked
   pub excepted : new ≡ given_all exceptions marked

@@ -109,9 +109,9 @@ impl Intake {
         ensures room { IfOk result (λ arrivals. length arrivals.txs.items + length arrivals.given.items ≤ room) }
     {
         let choice = self.choose(chain, room, first)?;
-        let given = self.exceptions(chain, &choice, room)?;
+        let mut given = self.exceptions(chain, &choice, room)?;
         let txs = self.admit(&choice, room - given.len())?;
-        self.give_all(given.as_slice());
+        self.give_all(&mut given);
         Ok(Arrivals { txs, given })
     }
 

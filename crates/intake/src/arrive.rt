@@ -26,6 +26,16 @@ impl Desk {
         Ok(txs)
     }
 
+    /// Whether it was received, has not arrived and is not final.
+    pub(crate) fn is_waiting(&self, tx: &Tx) -> bool
+        ensures { result ≡ is_waiting tx.now self.now }
+    {
+        match self.held.get(tx) {
+            None => false,
+            Some(slot) => !slot.arrived,
+        }
+    }
+
     /// One waiting transaction arrives, whatever its key. It is an exception: the caller counts them.
     pub fn give(&mut self, tx: &Tx) -> bool
         ensures answer { result ≡ is_waiting tx.now self.old }

@@ -1,6 +1,6 @@
 //! Exceptions, where the chain is stuck.
 ghost use Rattle.std.specs.Prelude.{◌≡◌, ◌≤◌, ◌+◌, length, IfOk};
-ghost use Rattle.intake.specs.Offered.{HasNamed, given_all};
+ghost use Rattle.intake.specs.Offered.{AreWaiting, HasNamed, given_all};
 
 use crate::chain::{Chain, keep_unproposed};
 use crate::choice::Choice;
@@ -65,12 +65,22 @@ impl Intake {
         )
     }
 
-    pub(crate) fn give_all(&mut self, given: &[Tx])
-        ensures { self.new ≡ given_all given.now self.old }
+    /// Lets exceptions arrive. Only those stay that wait in their turn, which all that were chosen do.
+    pub(crate) fn give_all(&mut self, given: &mut Vec<Tx>)
+        ensures waiting { AreWaiting given.new.items self.old }
+        ensures desk { self.new ≡ given_all given.new.items self.old }
+        ensures fewer { length given.new.items ≤ length given.old.items }
     {
-        for tx in given {
-            self.desk.give(tx);
+        let mut kept = 0;
+        for at in 0..given.len() {
+            let tx = given[at];
+            if self.desk.is_waiting(&tx) {
+                self.desk.give(&tx);
+                given[kept] = tx;
+                kept += 1;
+            }
         }
+        given.truncate(kept);
         self.given_count = self.given_count.saturating_add(given.len() as u64);
     }
 }

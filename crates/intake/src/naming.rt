@@ -1,8 +1,12 @@
 //! Which transactions accepted blocks name.
+ghost use Rattle.std.specs.Prelude.{◌≡◌, ◌++◌, ◌∷◌, [], List, map, IfOk, OnOk};
+ghost use Rattle.seq_base.specs.declared.tx.Tx.{Tx};
+ghost use Rattle.intake.specs.Naming.{AreCounted, HasNamedAll, HasNamedOf, IsNamed};
+ghost use Rattle.intake.specs.Receiving.{received};
 ghost use Rattle.intake.specs.Offered.{HasNamed};
 
 use crate::hints::ShownList;
-use crate::{Desk, Intake, Standing};
+use crate::{Desk, Intake};
 use indexmap::{IndexMap, IndexSet};
 use seq_base::{NoMemory, Tx};
 use std::alloc::Global;
@@ -17,7 +21,9 @@ impl Intake {
         parent: u32,
         lists: Vec<ShownList>,
     ) -> Result<(), NoMemory>
-        ensures { HasNamed self.old self.new }
+        ensures named { HasNamed self.old self.new }
+        ensures only { HasNamedOf self.old.f (map (λ list. list.txs.items) lists.items) self.old self.new }
+        ensures all { OnOk result (HasNamedAll self.old.f (map (λ list. list.txs.items) lists.items) self.old self.new) }
     {
         let f = self.desk.f();
         let counts = counts_of(self.alloc, lists.as_slice())?;
@@ -32,7 +38,9 @@ impl Intake {
     }
 
     fn name_all(&mut self, counts: &IndexMap<Tx, u32>, f: u32) -> Result<(), NoMemory>
-        ensures { HasNamed self.old self.new }
+        ensures named { HasNamed self.old self.new }
+        ensures only { (lists : List (List Tx)) → AreCounted lists counts.now.entries → HasNamedOf f lists self.old self.new }
+        ensures all { OnOk result ((lists : List (List Tx)) → AreCounted lists counts.now.entries → HasNamedAll f lists self.old self.new) }
     {
         for (tx, count) in counts.iter() {
             if f < *count {
@@ -43,23 +51,23 @@ impl Intake {
     }
 
     fn name(&mut self, tx: Tx) -> Result<(), NoMemory>
-        ensures { HasNamed self.old self.new }
+        ensures named { HasNamed self.old self.new }
+        ensures one { IsNamed tx self.old self.new }
+        ensures ok { OnOk result (self.new ≡ received self.old.n tx self.old) }
     {
         receive_named(&mut self.desk, tx)?;
-        if self.waits(&tx) {
+        if self.desk.is_waiting(&tx) {
             self.hints.named.insert(tx)?;
         }
         Ok(())
-    }
-
-    fn waits(&self, tx: &Tx) -> bool {
-        matches!(self.desk.standing(tx), Standing::Waiting)
     }
 }
 
 /// Receives a transaction of a block's list.
 pub(crate) fn receive_named(desk: &mut Desk, tx: Tx) -> Result<(), NoMemory>
-    ensures { HasNamed desk.old desk.new }
+    ensures named { HasNamed desk.old desk.new }
+    ensures one { IsNamed tx desk.old desk.new }
+    ensures ok { OnOk result (desk.new ≡ received desk.old.n tx desk.old) }
 {
     let blocks = desk.n();
     desk.receive(tx, blocks)?;
@@ -67,7 +75,9 @@ pub(crate) fn receive_named(desk: &mut Desk, tx: Tx) -> Result<(), NoMemory>
 }
 
 /// How many lists hold each transaction.
-fn counts_of(alloc: Global, lists: &[ShownList]) -> Result<IndexMap<Tx, u32>, NoMemory> {
+fn counts_of(alloc: Global, lists: &[ShownList]) -> Result<IndexMap<Tx, u32>, NoMemory>
+    ensures { IfOk result (λ counts. AreCounted (map (λ list. list.txs.items) lists.now) counts.entries) }
+{
     let mut counts = IndexMap::new(alloc);
     for list in lists {
         count(&mut counts, list.txs.as_slice())?;
@@ -75,11 +85,20 @@ fn counts_of(alloc: Global, lists: &[ShownList]) -> Result<IndexMap<Tx, u32>, No
     Ok(counts)
 }
 
-fn count(counts: &mut IndexMap<Tx, u32>, txs: &[Tx]) -> Result<(), NoMemory> {
+fn count(counts: &mut IndexMap<Tx, u32>, txs: &[Tx]) -> Result<(), NoMemory>
+    ensures { OnOk result ((lists : List (List Tx)) → AreCounted lists counts.old.entries → AreCounted (lists ++ txs.now ∷ []) counts.new.entries) }
+{
     for tx in txs {
-        let before = counts.get(tx).copied().unwrap_or(0);
-        counts.insert(*tx, before.saturating_add(1))?;
+        count_one(counts, tx)?;
     }
+    Ok(())
+}
+
+fn count_one(counts: &mut IndexMap<Tx, u32>, tx: &Tx) -> Result<(), NoMemory>
+    ensures { OnOk result ((lists : List (List Tx)) (txs : List Tx) → AreCounted (lists ++ txs ∷ []) counts.old.entries → AreCounted (lists ++ (txs ++ tx.now ∷ []) ∷ []) counts.new.entries) }
+{
+    let before = counts.get(tx).copied().unwrap_or(0);
+    counts.insert(*tx, before.saturating_add(1))?;
     Ok(())
 }
 

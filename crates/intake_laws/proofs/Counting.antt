@@ -1,14 +1,12 @@
 -- Counts over replicas, and a number in the middle of the numbers of a set of replicas.
-use Rattle.std.proofs.Common.{◌≡◌, ℕ, zero, suc, ◌+◌, ◌<◌, ◌≤◌, List, [], ◌∷◌, length, get_or, Bool, true, false, not, cond, ◌&&◌, ◌||◌, leb, refl, ap, inl, inr, arith}
+use Rattle.std.proofs.Common.{◌≡◌, ℕ, zero, suc, ◌+◌, ◌<◌, ◌≤◌, List, [], ◌∷◌, length, get_or, Bool, true, false, not, ◌&&◌, ◌||◌, leb, refl, ap, inl, inr, arith}
 use Rattle.std.specs.Prelude.{count_by}
 use Rattle.std.proofs.lemmas.Bool.{cases_Bool, cases_lt, and_parts, and_from, not-true, leb-true, leb-false, le-leb, lt-leb, both_ways, false_from_ne_true}
 use Rattle.std.proofs.lemmas.List.Sums.{sum_by-cons}
+use Rattle.chain_laws.proofs.Members.{points_not}
+use Rattle.seq_base.proofs.Points.{point}
 use Rattle.count_set.specs.Sets.{size_of}
 use Rattle.intake_laws.specs.Middle.{IsMiddle}
-
--- one for a member
-abbrev pub point : Bool → ℕ
-point b = cond b 1 0
 
 pub points_mono : (a b : Bool) → (a ≡ true → b ≡ true) → point a ≤ point b
 points_mono true b more = rw (more refl) (omega arith)
@@ -40,10 +38,6 @@ points_parts false false = refl
 pub size_parts : (n : ℕ) (xs ys : ℕ → Bool) → size_of n (λ r. xs r && ys r) + size_of n (λ r. xs r && not (ys r)) ≡ size_of n xs
 size_parts zero xs ys = refl
 size_parts (suc n) xs ys = omega (arith, points_parts (xs n) (ys n), size_parts n xs ys)
-
-points_not : (a : Bool) → point (not a) + point a ≡ 1
-points_not true = refl
-points_not false = refl
 
 pub size_not : (n : ℕ) (xs : ℕ → Bool) → size_of n (λ r. not (xs r)) + size_of n xs ≡ n
 size_not zero xs = refl

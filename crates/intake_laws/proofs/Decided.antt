@@ -2,21 +2,23 @@
 use Rattle.std.proofs.Common.{◌≡◌, ℕ, zero, suc, ◌+◌, ◌-◌, ◌*◌, ◌<◌, ◌≤◌, List, [], ◌∷◌, Bool, true, false, not, ◌&&◌, ◌||◌, leb, refl, sym, ap, ◌∙◌, inl, inr, arith}
 use Rattle.std.specs.Prelude.{Contains, All}
 use Rattle.std.specs.List.{flat_map}
-use Rattle.std.proofs.lemmas.Bool.{cases_Bool, cases_lt, and_parts, and_from, both_ways, or_parts, or_left, leb-true}
+use Rattle.std.proofs.lemmas.Bool.{and_from, and_parts, both_ways, cases_Bool, leb-true, not-true, or_left, or_parts}
 use Rattle.std.proofs.lemmas.List.Folds.{list_any-append}
-use Rattle.std.proofs.Math.Nat.{mul-le-mul_left, mul-le-mul}
+use Rattle.std.proofs.Math.Nat.{mul-le-mul}
 use Rattle.seq_base.specs.declared.tx.Tx.{Tx}
 use Rattle.seq_base.specs.Tx.{tx_eq}
 use Rattle.seq_base.specs.Lists.{holds}
 use Rattle.seq_base.specs.Setting.{Parameters, IsValid}
+use Rattle.seq_base.proofs.Points.{point}
 use Rattle.count_set.specs.Sets.{size_of}
+use Rattle.count_set.proofs.Quorums.{four_faulty}
 use Rattle.chain_laws.specs.Received.{is_before, Received, honest_before}
 use Rattle.intake.specs.Keys.{limit}
 use Rattle.intake_laws.specs.Middle.{IsMiddle}
 use Rattle.intake_laws.specs.Past.{Call, Past, with_call, opened, AtEach, names_replica}
 use Rattle.intake_laws.specs.Premises.{History, lifetime_of, arrivals_of, ForHonest, UntilArrival, KnownOnArrival, Made, AreInOrder}
 use Rattle.intake_laws.proofs.Before.{before_more, before_skip}
-use Rattle.intake_laws.proofs.Counting.{size_mono, size_not, middle, point}
+use Rattle.intake_laws.proofs.Counting.{size_mono, size_not, middle}
 use Rattle.intake_laws.proofs.LeastStamps.{Contains-first, Contains-later, Contains-none}
 use Rattle.intake_laws.proofs.Slots.{receipt_at}
 use Rattle.intake_laws.proofs.Sounds.{Sound, sound_calls, opened_sound}
@@ -27,17 +29,6 @@ pub each_weaker : (P Q : Past → Call → Type 0) → ((p : Past) (call : Call)
     → AtEach Q p calls
 each_weaker P Q weaker p [] each = tt
 each_weaker P Q weaker p (call ∷ calls) each = (weaker p call each.0, each_weaker P Q weaker (with_call p call) calls each.1)
-
--- with e = 2p - q at most q
-four_faulty : (n f e q : ℕ) → e ≤ q → 4 * f * q < n * e → 4 * f < n
-four_faulty n f e q small enough =
-    elim (cases_lt (4 * f) n) [
-      | inl less ↦ less
-      | inr more ↦
-          let scaled : e * n ≤ e * (4 * f) = mul-le-mul_left e more in
-          let larger : 4 * f * e ≤ 4 * f * q = mul-le-mul_left (4 * f) small in
-          absurd (omega arith)
-    ]
 
 pub few_faulty : (s : Parameters) → IsValid s → 4 * s.f < s.n
 few_faulty s valid = four_faulty s.n s.f (2 * s.p - s.q) s.q (omega (arith, valid.gamma.at_most_one)) valid.resilience.enough
@@ -63,16 +54,12 @@ member (suc n) xs some =
       | inr absent ↦ let rest = member n xs (omega (arith, some, ap point absent)) in (rest.0, (omega (arith, rest.1)), rest.2)
     ]
 
-pub not_faulty : (x : Bool) → not x ≡ true → x ≡ false
-not_faulty true is = absurd (both_ways false refl is)
-not_faulty false is = refl
-
 pub middle_small : (s : Parameters) (faulty : ℕ → Bool) (stamp : ℕ → ℕ) (at : ℕ) → IsMiddle s.n s.f (λ i. not (faulty i)) stamp at → ForHonest s faulty
     (λ i. stamp i < limit) → at < limit
 middle_small s faulty stamp at mid stamped =
     let one = member s.n (λ i. not (faulty i) && leb at (stamp i)) (omega (arith, mid.upper)) in
     let parts = and_parts (not (faulty one.0)) (leb at (stamp one.0)) one.2 in
-    omega (arith, leb-true at (stamp one.0) parts.1, stamped one.0 one.1 (not_faulty (faulty one.0) parts.0))
+    omega (arith, leb-true at (stamp one.0) parts.1, stamped one.0 one.1 (not-true (faulty one.0) parts.0))
 
 module _ (s : Parameters) (faulty late : ℕ → Bool) (history : History) (stamp : ℕ → ℕ) (a b : Tx) (valid : IsValid s)
     (premises : AreInOrder s faulty late history stamp a b) where
@@ -96,7 +83,7 @@ module _ (s : Parameters) (faulty late : ℕ → Bool) (history : History) (stam
         own_above s.n s.f i below valid.replicas.few (λ j. not (faulty j)) stamp at mid a b (opened s.n s.f i) made.lifetime
         (premises.calls i below honest made.lifetime made.recorded)
         (opened_sound s.n s.f i below valid.replicas.few)
-        (each_weaker _ _ (λ p call heard received j under set. heard received j under (not_faulty (faulty j) set)) (opened s.n s.f i) made.lifetime
+        (each_weaker _ _ (λ p call heard received j under set. heard received j under (not-true (faulty j) set)) (opened s.n s.f i) made.lifetime
         (premises.in_between i below honest in_time made.lifetime made.recorded))
         (λ r found is. absurd (Contains-none r found)) (receipt_at b x) made.made refl
 
@@ -139,7 +126,7 @@ pub all_received : (s : Parameters) (faulty : ℕ → Bool) (arrivals : ℕ → 
 all_received s faulty arrivals a b valid first =
     let honest : size_of s.n (λ r. not (faulty r)) ≤ size_of s.n (honest_before faulty arrivals a b) =
     size_mono s.n (λ r. not (faulty r)) (honest_before faulty arrivals a b)
-    (λ r below is. and_from (not (faulty r)) (is_before (arrivals r) a b) is (first r below (not_faulty (faulty r) is))) in
+    (λ r below is. and_from (not (faulty r)) (is_before (arrivals r) a b) is (first r below (not-true (faulty r) is))) in
     let all : s.n ≤ size_of s.n (honest_before faulty arrivals a b) + size_of s.n faulty = omega (arith, size_not s.n faulty, honest) in
     let gamma : s.p ≤ s.q = omega (arith, valid.gamma.at_most_one) in
     record { enough = mul-le-mul gamma all }

@@ -3,8 +3,9 @@ use Rattle.std.proofs.Common.{◌≡◌, ℕ, zero, suc, ◌+◌, ◌<◌, ◌�
 use Rattle.std.specs.Prelude.{filter, fold, min, max, Contains}
 use Rattle.std.proofs.lemmas.Bool.{cases_Bool, cases_lt, cases_eq, leb-true, le-leb, lt-leb}
 use Rattle.std.proofs.lemmas.List.Sums.{sum_by-cons}
+use Rattle.seq_base.proofs.Points.{point}
 use Rattle.intake.specs.Keys.{unknown, count_upto, reaches, key_of, count_from, adopted_of}
-use Rattle.intake_laws.proofs.Counting.{point, points_mono}
+use Rattle.intake_laws.proofs.Counting.{points_mono}
 
 module _ {X : Type 0} where
   pub Contains-first : (x : X) (xs : List X) → Contains (x ∷ xs) x

@@ -1,7 +1,7 @@
 -- At a replica where a waits ahead of b when b arrives, a arrives first.
 use Rattle.std.proofs.Common.{◌≡◌, ℕ, ◌+◌, ◌<◌, ◌≤◌, List, [], ◌∷◌, ◌++◌, Bool, true, false, not, ◌||◌, refl, sym, ap, subst, ◌∙◌, ◌⊎◌, inl, inr, arith}
 use Rattle.std.specs.Prelude.{Contains, All, filter}
-use Rattle.std.proofs.lemmas.Bool.{cases_Bool, both_ways, or_from}
+use Rattle.std.proofs.lemmas.Bool.{both_ways, cases_Bool, not-true, or_from}
 use Rattle.std.proofs.lemmas.List.Elements.{All-head, All-tail}
 use Rattle.std.proofs.lemmas.List.Folds.{list_any-append}
 use Rattle.seq_base.specs.declared.tx.Tx.{Tx}
@@ -37,10 +37,6 @@ module _ (s : Parameters) (me : ℕ) (mine : me < s.n) (faulty bad : ℕ → Boo
   abbrev Above : Past → Type 0
   Above p = (i : ℕ) (x : ℕ) → i < s.n → bad i ≡ false → Contains (p.receipts i) (receipt_at b x) → at < x
 
-  not_faulty : (x : Bool) → not x ≡ true → x ≡ false
-  not_faulty true is = absurd (both_ways false refl is)
-  not_faulty false is = refl
-
   ahead_arrives : (p : Past) (bound : Bound) (extra : List Tx) → Sound s.n s.f me p → Above p → WaitsAhead s faulty stamp a b p.desk
       → holds b (arriving bound extra p.desk) ≡ true → is_before (arriving bound extra p.desk) a b ≡ true
   ahead_arrives p bound extra sound above ahead comes_b =
@@ -52,7 +48,7 @@ module _ (s : Parameters) (me : ℕ) (mine : me < s.n) (faulty bad : ℕ → Boo
       let noted_a = sound.noted (a, ahead.slot) held_a in
       let k_is : k_of p.desk.n ≡ k_of s.n = ap k_of sound.fits.n_is in
       let low_a = key_low s.n s.f (k_of s.n) (λ i. not (faulty i)) stamp at ahead.slot.stamps counts.few middle noted_a.many counts.positive counts.enough
-      (λ i below honest. ahead.stamps i below (not_faulty (faulty i) honest)) in
+      (λ i below honest. ahead.stamps i below (not-true (faulty i) honest)) in
       let few_b = few_low s.n me (λ i r. Contains (p.receipts i) r) bad at found.0 counts.few small (sound.noted found.0 held_b)
       (λ i x below good known. above i x below good (subst (λ (t : Tx). Contains (p.receipts i) (receipt_at t x)) found.2 known)) in
       let key_b = key_above (k_of s.n) at found.0.1.stamps (omega (arith, small)) (omega (arith, few_b, counts.bad_few, counts.more)) in

@@ -1,16 +1,17 @@
 -- Laws of keys and clocks over lists of numbers.
 use Rattle.std.proofs.Common.{◌≡◌, ℕ, zero, suc, ◌+◌, ◌<◌, ◌≤◌, List, length, get_or, Bool, true, false, not, ◌&&◌, ◌||◌, leb, refl, ap, ◌∙◌, ◌⊎◌, inl, inr, arith}
 use Rattle.std.specs.Prelude.{◌↔◌}
-use Rattle.std.proofs.lemmas.Bool.{cases_Bool, cases_lt, and_parts, and_from, or_left, leb-true, le-leb, not_from_false}
+use Rattle.std.proofs.lemmas.Bool.{and_from, and_parts, cases_Bool, cases_lt, le-leb, leb-true, not-true, not_from_false, or_left}
 use Rattle.seq_base.specs.Setting.{Parameters, IsValid}
+use Rattle.seq_base.proofs.Points.{point}
 use Rattle.count_set.specs.Sets.{size_of}
 use Rattle.intake.specs.Keys.{unknown, k_of, key_of, low_of, reaches, count_upto, adopted_of, count_from}
 use Rattle.intake_laws.specs.Middle.{count_below, IsMiddle}
 use Rattle.intake_laws.specs.KeyClaims.{honest, AreStamps, AllKnown, AllTrue, AreStamped, IsPast}
-use Rattle.intake_laws.proofs.Counting.{point, size_mono, size_not, size_or, size_longer, size_beyond, count_as_size, middle}
+use Rattle.intake_laws.proofs.Counting.{size_mono, size_not, size_or, size_longer, size_beyond, count_as_size, middle}
 use Rattle.intake_laws.proofs.LeastStamps.{key_upto, upto_key, adopted_from, from_adopted}
 use Rattle.intake_laws.proofs.Closed.{key_above}
-use Rattle.intake_laws.proofs.Decided.{few_faulty, member, not_faulty}
+use Rattle.intake_laws.proofs.Decided.{few_faulty, member}
 
 pub key_is_reached : (k s : ℕ) (stamps : List ℕ) → 0 < k → s < unknown → (key_of k stamps ≤ s) ↔ (reaches k stamps s ≡ true)
 key_is_reached k s stamps some small = (
@@ -125,7 +126,7 @@ module _ (s : Parameters) (faulty late : ℕ → Bool) (first second : ℕ → �
   middle_below at mid =
       let some = member s.n (λ i. honest faulty i && leb at (first i)) (omega (arith, mid.upper)) in
       let parts = and_parts (honest faulty some.0) (leb at (first some.0)) some.2 in
-      omega (arith, leb-true at (first some.0) parts.1, stamped.below some.0 some.1 (not_faulty (faulty some.0) parts.0))
+      omega (arith, leb-true at (first some.0) parts.1, stamped.below some.0 some.1 (not-true (faulty some.0) parts.0))
 
   -- few stamps of the other are at most the middle
   few_other : (at : ℕ) → IsMiddle s.n s.f (honest faulty) first at → count_upto at other ≤ size_of s.n (λ i. faulty i || late i)

@@ -1,7 +1,7 @@
 -- A certificate and a block that pass their tests, and the invariant after a block is accepted.
 use Rattle.std.proofs.Common.{◌≡◌, ℕ, ◌<◌, ◌≤◌, List, [], ◌∷◌, ◌++◌, length, true, false, Some, None, nat_lt, nat_le, refl, sym, subst, ◌∙◌, arith}
 use Rattle.std.specs.Prelude.{All, not, if◌then◌else◌}
-use Rattle.std.proofs.lemmas.Bool.{leb-false}
+use Rattle.std.proofs.lemmas.Bool.{leb-false, not-false, or_parts}
 use Rattle.std.proofs.lemmas.List.{append-nil}
 use Rattle.std.proofs.lemmas.List.Elements.{All-nil, All-cons}
 use Rattle.seq_base.specs.declared.tx.Tx.{Tx}
@@ -24,7 +24,6 @@ use Rattle.journal_laws.proofs.StateInvariant.{TiedTo, found_with, shown_stored,
 use Rattle.journal_rules.proofs.Kept.{good_shown}
 use Rattle.journal_rules.specs.Stores.{at}
 use Rattle.journal_rules.proofs.Stores.{true_eq}
-use Rattle.journal_laws.proofs.Tests.{neither, holds}
 use Rattle.journal_laws.proofs.TurnTies.{Laws}
 
 -- nothing arrived
@@ -57,10 +56,10 @@ own_ballot b = ballot b.view (block_digest b)
 module _ (laws : Laws) (fits : Check) (s : Parameters) (known : Known) (blocks : List Block) (arrived : List Tx) (prior : List Shown) (tied : TiedTo s known blocks arrived prior) where
   pub takes_cert : (cert : Cert) (v : ℕ) → is_bad fits known cert v ≡ false → not (is_stored known.store cert.block) ≡ false → IsTaken fits s known prior cert v
   takes_cert cert v fine stored_there =
-      let parts = neither (nat_le v cert.view) _ fine in
-      let rest = neither (is_stored_elsewhere known cert.block cert.view) (not (is_good fits known.setting cert)) parts.1 in
-      let b = found_with s known blocks arrived prior tied cert.block cert.view (holds (is_stored known.store cert.block) stored_there) rest.0 in
-      let good : is_good fits known.setting cert ≡ true = holds (is_good fits known.setting cert) rest.1 in
+      let parts = or_parts (nat_le v cert.view) _ fine in
+      let rest = or_parts (is_stored_elsewhere known cert.block cert.view) (not (is_good fits known.setting cert)) parts.1 in
+      let b = found_with s known blocks arrived prior tied cert.block cert.view (not-false (is_stored known.store cert.block) stored_there) rest.0 in
+      let good : is_good fits known.setting cert ≡ true = not-false (is_good fits known.setting cert) rest.1 in
       record {
         block = b.0;
         found = b.1;

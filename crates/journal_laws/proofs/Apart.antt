@@ -3,14 +3,13 @@ use Rattle.std.proofs.Common.{◌≡◌, ◌≢◌, ℕ, zero, suc, ◌<◌, ◌
 use Rattle.std.specs.Prelude.{All, nat_le, ◌&&◌, ◌==◌}
 use Rattle.std.specs.Int.{w32, from_be_bytes}
 use Rattle.std.specs.List.{AllPairs, cons_option}
-use Rattle.std.proofs.lemmas.Bool.{leb-true}
+use Rattle.std.proofs.lemmas.Bool.{and_parts, leb-true}
 use Rattle.std.proofs.lemmas.Bool.Decides.{nat_tests}
 use Rattle.std.proofs.lemmas.List.Elements.{All-nil, All-cons, All-weaker}
 use Rattle.std.proofs.lemmas.List.Kept.{AllPairs-cons}
 use Rattle.seq_base.specs.declared.kinds.TheConstants.{NEW_VIEW, VOTE}
 use Rattle.journal_rules.specs.Sealed.{Mark, mark_of, marks_in}
 use Rattle.journal_laws.specs.Sealed.{has_kind, views_of, Rise, AreSealedOnce}
-use Rattle.journal_laws.proofs.Tests.{both}
 
 lower : (low mid high : ℕ) (vs : List ℕ) → low ≤ mid → Rise mid vs high → Rise low vs high
 lower low mid high [] below rise = omega (arith, below, rise)
@@ -40,7 +39,7 @@ marked (kind ∷ rest) m is = by (nat_le NEW_VIEW kind && nat_le kind VOTE) refl
     by true is found =
         let mark : Mark = record { kind = kind; view = view } in
         let same : mark ≡ m = cc in
-        let bounds = both (nat_le NEW_VIEW kind) (nat_le kind VOTE) is in
+        let bounds = and_parts (nat_le NEW_VIEW kind) (nat_le kind VOTE) is in
         subst (IsMarked (kind ∷ rest)) same (record {
           view = rw own refl;
           least = leb-true NEW_VIEW kind bounds.0;

@@ -3,7 +3,7 @@ use Rattle.std.proofs.Common.{◌≡◌, ◌≢◌, Some, None, Option, ℕ, ◌
 use Rattle.std.specs.Prelude.{if◌then◌else◌, All, Result, Ok, Err, ◌↔◌, IsSome, is_some}
 use Rattle.std.specs.List.{AllPairs, flat_map, list_all}
 use Rattle.std.specs.Option.{option_map_or}
-use Rattle.std.proofs.lemmas.Bool.{ltb-true}
+use Rattle.std.proofs.lemmas.Bool.{and_parts, ltb-true}
 use Rattle.std.proofs.lemmas.Bool.Decides.{nat_tests}
 use Rattle.std.proofs.lemmas.Grind.{flat_map-append}
 use Rattle.std.proofs.lemmas.List.{append-nil, take_at, map-append, length-append}
@@ -66,7 +66,6 @@ use Rattle.journal_laws.specs.Standing.{MayCome, StandsAt}
 use Rattle.journal_laws.proofs.Apart.{marks_apart}
 use Rattle.journal_laws.proofs.Marks.{InBounds}
 use Rattle.journal_laws.proofs.StateInvariant.{TiedTo}
-use Rattle.journal_laws.proofs.Tests.{both}
 use Rattle.journal_laws.proofs.TurnSeals.{turn_seals}
 use Rattle.journal_laws.proofs.TurnTies.{Laws, ComesFrom, WasTaken, WasDone, IsDrawnBy, IsOwn, TurnTies, byte_is}
 use Rattle.journal_laws.proofs.TurnKinds.{turn_ties}
@@ -92,7 +91,7 @@ tied_more s known prior e ties =
 
 all_pass : {X : Type 0} (p : X → Bool) (xs : List X) → list_all p xs ≡ true → All (λ x. p x ≡ true) xs
 all_pass p [] is = All-nil (λ x. p x ≡ true)
-all_pass p (x ∷ xs) is = let parts = both (p x) (list_all p xs) is in All-cons (λ y. p y ≡ true) x xs parts.0 (all_pass p xs parts.1)
+all_pass p (x ∷ xs) is = let parts = and_parts (p x) (list_all p xs) is in All-cons (λ y. p y ≡ true) x xs parts.0 (all_pass p xs parts.1)
 
 -- The chain state of a stored block is that of the chain that the prefix shows.
 module _ (one_more : StandsForOneMore) (s : Parameters) (known : Known) (prior : List Entry) (tied : TiedTo s known (blocks_in prior) (arrived_in prior) (map shown prior)) (kept : StoreKept known.store) where
@@ -111,9 +110,9 @@ module _ (one_more : StandsForOneMore) (by : Scale) (known : Known) (prior : Lis
 
   valid_in : (b : Block) → IsValidBlock by.setting (map shown prior) (named b) → WasTaken by.fits known b → IsValidIn by prior b
   valid_in b plain was =
-      let count_rest = both (nat_eq (length b.orders) (quorum_of known.setting)) _ was.fit in
-      let placed_rest = both (list_all (λ sealed. is_placed known b sealed.order) b.orders) _ count_rest.1 in
-      let lists_seals = both (list_all (λ sealed. lists_fit known b.cert.block sealed.order) b.orders) (list_all (is_sealed by.fits) b.orders) placed_rest.1 in
+      let count_rest = and_parts (nat_eq (length b.orders) (quorum_of known.setting)) _ was.fit in
+      let placed_rest = and_parts (list_all (λ sealed. is_placed known b sealed.order) b.orders) _ count_rest.1 in
+      let lists_seals = and_parts (list_all (λ sealed. lists_fit known b.cert.block sealed.order) b.orders) (list_all (is_sealed by.fits) b.orders) placed_rest.1 in
       let placed : All (λ sealed. is_placed known b sealed.order ≡ true) b.orders = all_pass (λ (sealed : SealedOrder). is_placed known b sealed.order) b.orders placed_rest.0 in
       let parent : (n : Named) × (at known.store b.cert.block ≡ Some n) = stored_found known.store b.cert.block was.parent in
       record {
@@ -122,12 +121,12 @@ module _ (one_more : StandsForOneMore) (by : Scale) (known : Known) (prior : Lis
         below = plain.below;
         count = rw (← tied.setting) (let same : nat_eq (length b.orders) (quorum_of known.setting) ≡ true = count_rest.0 in grind (arith, nat_tests));
         views = All-weaker (λ sealed. is_placed known b sealed.order ≡ true) (λ sealed. sealed.order.view ≡ b.view)
-            (λ sealed is. let parts = both (nat_eq sealed.order.view b.view) _ is in (let same : nat_eq sealed.order.view b.view ≡ true = parts.0 in grind (arith, nat_tests))) b.orders placed;
+            (λ sealed is. let parts = and_parts (nat_eq sealed.order.view b.view) _ is in (let same : nat_eq sealed.order.view b.view ≡ true = parts.0 in grind (arith, nat_tests))) b.orders placed;
         parents = All-weaker (λ sealed. is_placed known b sealed.order ≡ true) (λ sealed. sealed.order.parent ≡ b.cert.block)
-            (λ sealed is. let parts = both (nat_eq sealed.order.view b.view) _ is in (digest_eq_decides sealed.order.parent b.cert.block).0 (both (digest_eq sealed.order.parent b.cert.block) _ parts.1).0) b.orders placed;
+            (λ sealed is. let parts = and_parts (nat_eq sealed.order.view b.view) _ is in (digest_eq_decides sealed.order.parent b.cert.block).0 (and_parts (digest_eq sealed.order.parent b.cert.block) _ parts.1).0) b.orders placed;
         replicas = All-weaker (λ sealed. is_placed known b sealed.order ≡ true) (λ sealed. sealed.order.replica < by.setting.n)
-            (λ sealed is. let parts = both (nat_eq sealed.order.view b.view) _ is in
-            subst (λ (p : Parameters). sealed.order.replica < p.n) tied.setting (ltb-true _ _ (both (digest_eq sealed.order.parent b.cert.block) _ parts.1).1)) b.orders placed;
+            (λ sealed is. let parts = and_parts (nat_eq sealed.order.view b.view) _ is in
+            subst (λ (p : Parameters). sealed.order.replica < p.n) tied.setting (ltb-true _ _ (and_parts (digest_eq sealed.order.parent b.cert.block) _ parts.1).1)) b.orders placed;
         seals = all_pass (is_sealed by.fits) b.orders lists_seals.1;
         lists = subst (λ (c : Standings). All (λ sealed. fits_chain c sealed.order ≡ true) b.orders) (state_is one_more by.setting known prior tied kept b.cert.block parent.0 parent.1)
             (all_pass (λ (sealed : SealedOrder). lists_fit known b.cert.block sealed.order) b.orders lists_seals.0);

@@ -2,7 +2,7 @@
 use Rattle.std.proofs.Common.{◌≡◌, ℕ, ◌+◌, ◌<◌, ◌≤◌, List, [], ◌∷◌, ◌++◌, length, Bool, true, false, Option, Some, None, nat_lt, nat_le, refl, sym, ap, subst, ◌∙◌, inl, inr, ◌⊎◌, arith, ◌||◌, ◌&&◌, ◌==◌, if◌then◌else◌}
 use Rattle.std.specs.Prelude.{find, not}
 use Rattle.std.specs.Option.{option_map}
-use Rattle.std.proofs.lemmas.Bool.{cases_Bool, ltb-true, ltb-false, leb-true, le-leb, eqb-true}
+use Rattle.std.proofs.lemmas.Bool.{and_parts, cases_Bool, eqb-true, le-leb, leb-true, ltb-false, ltb-true}
 use Rattle.std.proofs.lemmas.Bool.Decides.{nat_tests}
 use Rattle.std.proofs.lemmas.List.Elements.{All-nil, All-cons, All-append}
 use Rattle.std.proofs.lemmas.List.Edits.{length-insert}
@@ -20,7 +20,6 @@ use Rattle.node_core.specs.State.{Known, Ballot}
 use Rattle.node_core.specs.declared.state.votes.Formed.{Formed}
 use Rattle.node_core.specs.Vote.{is_for, has_voted, empty_ballot, ballot_of, others, with_carried, with_vote, formed_votes, formed, boxes_with}
 use Rattle.journal_laws.proofs.Firsts.{without_first, first_at, others_at, find_others, any_inserted}
-use Rattle.journal_laws.proofs.Tests.{both}
 use Rattle.journal_rules.proofs.Stores.{true_eq, eq_true}
 use Rattle.journal_rules.proofs.Voters.{IsOneMore, voters_more, voters_same}
 use Rattle.journal_laws.proofs.Votes.{AreVotes, IsOpen, VotesTied, apart_others, box_for, box_key, box_open, box_unvoted, find_last, find_own, last_other, last_own, open_others, other_key}
@@ -123,7 +122,7 @@ module _ (known : Known) (v : ℕ) (d : Digest) (w : CertVote) (order : Option S
         (All-cons (IsOpen known.setting) put [] (record { formed = is_open.formed; setting = is_open.setting }) (All-nil (IsOpen known.setting)));
     apart = λ x c. elim (cases_Bool ((v == x) && digest_eq d c)) [
       | inl is ↦
-          let parts = both (v == x) (digest_eq d c) is in
+          let parts = and_parts (v == x) (digest_eq d c) is in
           let same_view : v ≡ x = eqb-true v x parts.0 in
           rw (← same_view, ← eq_true d c parts.1, last_own v d rest put (tied.apart v d) own_key) (tied.apart v d)
       | inr not ↦
@@ -132,7 +131,7 @@ module _ (known : Known) (v : ℕ) (d : Digest) (w : CertVote) (order : Option S
     ];
     same = λ x c above. elim (cases_Bool ((v == x) && digest_eq d c)) [
       | inl is ↦
-          let parts = both (v == x) (digest_eq d c) is in
+          let parts = and_parts (v == x) (digest_eq d c) is in
           let same_view : v ≡ x = eqb-true v x parts.0 in
           rw (← same_view, ← eq_true d c parts.1, find_own v d rest put (tied.apart v d) own_key) now
       | inr not ↦ rw (another x c not, find_last v d (is_for x c) rest put (put_other x c not), rest_other x c not) (tied.same x c above)

@@ -3,7 +3,7 @@ use Rattle.std.proofs.Common.{◌≡◌, ℕ, suc, ◌<◌, ◌≤◌, List, [],
 use Rattle.std.specs.Prelude.{All, Contains, not, if◌then◌else◌}
 use Rattle.std.specs.List.{AllPairs, Any}
 use Rattle.std.specs.Option.{option_map_or}
-use Rattle.std.proofs.lemmas.Bool.{cases_Bool, or_cases, ltb-true, ltb-false}
+use Rattle.std.proofs.lemmas.Bool.{and_parts, cases_Bool, ltb-false, ltb-true, not-false, or_cases}
 use Rattle.std.proofs.lemmas.Bool.Decides.{nat_tests}
 use Rattle.std.proofs.lemmas.Grind.{flat_map-append}
 use Rattle.std.proofs.lemmas.List.{append-nil}
@@ -35,7 +35,6 @@ use Rattle.journal_rules.proofs.Stores.{at_cases, eq_true, false_eq, at_view, vi
 use Rattle.journal_rules.proofs.GrownStores.{at_stays, grows}
 use Rattle.journal_rules.proofs.NextPrefix.{AllMove, lawful_more, still, sees}
 use Rattle.journal_rules.proofs.Kept.{stored_more, stored_same}
-use Rattle.journal_laws.proofs.Tests.{holds, both}
 use Rattle.journal_laws.proofs.OneVote.{vote_ties}
 use Rattle.journal_laws.proofs.Votes.{VotesTied, no_vote_ties}
 
@@ -70,7 +69,7 @@ module _ (s : Parameters) (known : Known) (blocks : List Block) (arrived : List 
       (b.0, b.1, equal b.0.view v (sym one ∙ same))
     where
       equal : (m n : ℕ) → not (nat_eq m n) ≡ false → m ≡ n
-      equal m n is = (let holds_now : nat_eq m n ≡ true = holds (nat_eq m n) is in grind (arith, nat_tests))
+      equal m n is = (let holds_now : nat_eq m n ≡ true = not-false (nat_eq m n) is in grind (arith, nat_tests))
 
   pub shown_stored : (d : Digest) (b : Named) (v : ℕ) → at known.store d ≡ Some b → b.view ≡ v → IsStored prior d v
   shown_stored d b v found is =
@@ -190,7 +189,7 @@ module _ (s : Parameters) (known : Known) (blocks : List Block) (arrived : List 
       | inr on ↦ elim (or_cases (extends known.store b.cert.block known.safety.lock) (is_at known.store known.safety.lock b) on) [
         | inl following ↦
             let steps = leads known.store (stored prior) tied.safe.stores (length known.store) b.cert.block known.safety.lock n (lock s prior) found tied.safe.at_lock
-            (both (is_stored known.store b.cert.block) (reaches (length known.store) known.store b.cert.block known.safety.lock) following).1 in
+            (and_parts (is_stored known.store b.cert.block) (reaches (length known.store) known.store b.cert.block known.safety.lock) following).1 in
             inl (suc steps.0, (n, parent_is, steps.1))
         | inr itself ↦ inl (0, is_lock (block_at known.store known.safety.lock) refl itself)
       ]

@@ -2,7 +2,7 @@
 use Rattle.std.proofs.Common.{◌≡◌, ℕ, ◌+◌, ◌^◌, ◌<◌, ◌≤◌, List, [], ◌∷◌, ◌++◌, Bool, true, false, Option, Some, None, is_some, nat_eq, nat_lt, nat_le, max, refl, sym, ap, subst, ◌∙◌, inl, inr, arith}
 use Rattle.std.specs.Prelude.{Result, Ok, Err, if◌then◌else◌}
 use Rattle.std.specs.List.{cons_option}
-use Rattle.std.proofs.lemmas.Bool.{ltb-true, cases_Bool, or_right, leb-false}
+use Rattle.std.proofs.lemmas.Bool.{and_parts, cases_Bool, leb-false, ltb-true, not-false, or_parts, or_right}
 use Rattle.std.proofs.lemmas.Bool.Decides.{nat_tests}
 use Rattle.std.proofs.lemmas.List.{append-nil}
 use Rattle.std.proofs.lemmas.List.Elements.{All-nil, All-cons}
@@ -53,7 +53,7 @@ use Rattle.journal_laws.proofs.StateInvariant.{TiedTo, found_with, next_still, n
 use Rattle.journal_rules.specs.Stores.{at}
 use Rattle.journal_rules.proofs.Stores.{found_stored}
 use Rattle.journal_laws.proofs.AcceptedBlocks.{IsTaken, IsTaking, none_more, proposal_entry, taken_ties, takes_cert, valid_block, voting_ties}
-use Rattle.journal_laws.proofs.Tests.{neither, both, holds, viewed}
+use Rattle.journal_laws.proofs.Tests.{viewed}
 use Rattle.journal_laws.proofs.TurnTies.{Laws, WasDone, IsOwn, TurnTies, if_so, ComesFrom, vote_shown}
 
 module _ (laws : Laws) (fits : Check) (gives : Gives) (s : Parameters) (state : State) (blocks : List Block) (arrived : List Tx) (prior : List Shown)
@@ -135,7 +135,7 @@ module _ (laws : Laws) (fits : Check) (gives : Gives) (s : Parameters) (state : 
       let next : Known = ordering call.view (seen call.cert known) in
       let x : Shown = record { message = Message.Ask call.cert; is_done = true; sealed = [] } in
       sealed_ties (Some (messages.Ask call)) [] (knowing state next) (order_spelling (order_of_view next call.view call.cert.block)) (from ∷ []) refl refl
-      (own_order next call.view call.cert.block (viewed known call.view p.1.0).1 (holds (is_stored known.store call.cert.block) p.1.1.1.1.1.1.0)) t.good
+      (own_order next call.view call.cert.block (viewed known call.view p.1.0).1 (not-false (is_stored known.store call.cert.block) p.1.1.1.1.1.1.0)) t.good
       (none_more s arrived next blocks (prior ++ x ∷ []) (next_seen s known blocks arrived prior tied laws.moves next call.cert t.block x refl (λ done. (t.agrees, t.shown)) refl (λ v d. refl) refl t.found t.view refl refl refl refl refl refl))
 
   -- what is stored of an order has no part in the journal
@@ -172,18 +172,18 @@ module _ (laws : Laws) (fits : Check) (gives : Gives) (s : Parameters) (state : 
   vote_ties from voted from_below p q = by (formed known voted.vote.view voted.vote.block (bare voted.vote) voted.order) refl
     where
       own : voted.vote.replica ≡ from
-      own = (let is : nat_eq voted.vote.replica from ≡ true = holds (nat_eq voted.vote.replica from) p.0 in grind (arith, nat_tests))
+      own = (let is : nat_eq voted.vote.replica from ≡ true = not-false (nat_eq voted.vote.replica from) p.0 in grind (arith, nat_tests))
 
       was : WasDone fits known (Some (messages.Vote voted))
       was = subst (λ (r : ℕ). fits r (vote_spelling voted.vote.replica voted.vote.view voted.vote.block) voted.vote.seal ≡ true) (sym own)
-          (both (fits from (vote_spelling voted.vote.replica voted.vote.view voted.vote.block) voted.vote.seal) _ (holds (vote_is_sealed fits from voted) p.1.1.1.1.0)).0
+          (and_parts (fits from (vote_spelling voted.vote.replica voted.vote.view voted.vote.block) voted.vote.seal) _ (not-false (vote_is_sealed fits from voted) p.1.1.1.1.0)).0
 
       over : known.high.view < voted.vote.view
-      over = leb-false _ _ (neither (nat_le voted.vote.view known.high.view) _ (neither (nat_lt (voted.vote.view + 1) known.view) _ p.1.1.1.0).1).0
+      over = leb-false _ _ (or_parts (nat_le voted.vote.view known.high.view) _ (or_parts (nat_lt (voted.vote.view + 1) known.view) _ p.1.1.1.0).1).0
 
       found : (b : Named) × (at known.store voted.vote.block ≡ Some b) × (b.view ≡ voted.vote.view)
-      found = found_with s known blocks arrived prior tied voted.vote.block voted.vote.view (holds (is_stored known.store voted.vote.block) p.1.1.1.1.1.0)
-          (neither (is_stored_elsewhere known voted.vote.block voted.vote.view) _ p.1.1.1.1.1.1.0).0
+      found = found_with s known blocks arrived prior tied voted.vote.block voted.vote.view (not-false (is_stored known.store voted.vote.block) p.1.1.1.1.1.0)
+          (or_parts (is_stored_elsewhere known voted.vote.block voted.vote.view) _ p.1.1.1.1.1.1.0).0
 
       kept_boxes : List Kept_ballot
       kept_boxes = boxes_with (formed known voted.vote.view voted.vote.block (bare voted.vote) voted.order) (others voted.vote.view voted.vote.block known.boxes)
@@ -218,10 +218,10 @@ module _ (laws : Laws) (fits : Check) (gives : Gives) (s : Parameters) (state : 
   give_ties : (b : Block) → Passes (give_rows fits known b) → Passes (given_rows fits known b) → Ties (Some (messages.Give b)) [] (give_done state b)
   unfolding give_done
   give_ties b p q =
-      let t : IsTaking fits s known prior b = record { cert = takes_cert laws fits s known blocks arrived prior tied b.cert b.view p.1.0 p.1.1.0; fit = holds (is_fit fits known b) q.0; alone = q.1.0 } in
+      let t : IsTaking fits s known prior b = record { cert = takes_cert laws fits s known blocks arrived prior tied b.cert b.view p.1.0 p.1.1.0; fit = not-false (is_fit fits known b) q.0; alone = q.1.0 } in
       let next : Known = taken b known in
       let x : Shown = record { message = Message.Give (named b); is_done = true; sealed = [] } in
-      quiet_ties (Some (messages.Give b)) [] (knowing state next) refl (record { good = t.cert.good; parent = holds (is_stored known.store b.cert.block) p.1.1.0; fit = t.fit; alone = t.alone })
+      quiet_ties (Some (messages.Give b)) [] (knowing state next) refl (record { good = t.cert.good; parent = not-false (is_stored known.store b.cert.block) p.1.1.0; fit = t.fit; alone = t.alone })
       (none_more s arrived next (with_block b blocks) (prior ++ x ∷ []) (taken_ties laws fits s known blocks arrived prior tied b next x t refl (λ v d. refl) refl (λ done. valid_block laws fits s known blocks arrived prior tied b t) (All-nil (IsLawfulVote s prior x)) (All-nil (λ w. known.safety.voted < w.view))
       (All-nil (λ w. w.view ≤ next.safety.voted)) (omega arith) (omega arith) refl refl refl refl refl refl refl))
 
@@ -288,9 +288,9 @@ module _ (laws : Laws) (fits : Check) (gives : Gives) (s : Parameters) (state : 
   propose_ties from proposed p q =
       let b : Block = proposed.block in
       let fit : (0 < b.view) × (b.view ≤ known.views) = viewed known b.view p.1.0 in
-      let over : known.high.view < b.view = leb-false _ _ (neither (nat_lt b.view known.view) _ p.1.1.1.0).1 in
-      let t : IsTaking fits s known prior b = record { cert = takes_cert laws fits s known blocks arrived prior tied b.cert b.view p.1.1.1.1.1.0 p.1.1.1.1.1.1.0; fit = holds (is_fit fits known b) q.0; alone = q.1.0 } in
-      voted_ties b t (holds (is_safe known.store known.safety b) q.1.1.0) (leb-false _ _ q.1.1.1.0) over (omega (arith, fit.1, bounds.wide)) proposed.replica proposed.seal
+      let over : known.high.view < b.view = leb-false _ _ (or_parts (nat_lt b.view known.view) _ p.1.1.1.0).1 in
+      let t : IsTaking fits s known prior b = record { cert = takes_cert laws fits s known blocks arrived prior tied b.cert b.view p.1.1.1.1.1.0 p.1.1.1.1.1.1.0; fit = not-false (is_fit fits known b) q.0; alone = q.1.0 } in
+      voted_ties b t (not-false (is_safe known.store known.safety b) q.1.1.0) (leb-false _ _ q.1.1.1.0) over (omega (arith, fit.1, bounds.wide)) proposed.replica proposed.seal
 
   message_ties : (from : ℕ) (m : MessageView) → from < s.n → Ties (Some m) [] (on_message fits gives state from m)
   message_ties from m below = by m

@@ -3,7 +3,7 @@
 use Rattle.std.proofs.Common.{◌≡◌, ℕ, ◌+◌, ◌<◌, ◌≤◌, List, [], ◌∷◌, ◌++◌, Bool, true, false, Option, Some, None, max, nat_eq, nat_le, nat_lt, refl, sym, ap, ◌∙◌, inl, inr, arith, if◌then◌else◌}
 use Rattle.std.specs.Prelude.{not, Ok, Err, Result}
 use Rattle.std.specs.Option.{option_map}
-use Rattle.std.proofs.lemmas.Bool.{cases_Bool, ltb-false, ltb-true, leb-false}
+use Rattle.std.proofs.lemmas.Bool.{cases_Bool, leb-false, ltb-false, ltb-true, not-false, or_parts}
 use Rattle.std.proofs.lemmas.Bool.Decides.{nat_tests}
 use Rattle.seq_base.specs.declared.kinds.TheConstants.{NEW_VIEW, ASK, ORDER, PROPOSE, VOTE}
 use Rattle.seq_base.specs.declared.digest.Digest.{Digest}
@@ -44,7 +44,7 @@ use Rattle.journal_rules.specs.Sealed.{sealed_in}
 use Rattle.journal_laws.specs.Sealed.{has_kind, Rise, AreSealedOnce}
 use Rattle.journal_laws.proofs.Cases.{Passes, Still, new_view_cases, ask_cases, order_cases, propose_cases, vote_cases, give_cases}
 use Rattle.journal_laws.proofs.Marks.{rise_on, InBounds, Seals, SealsIn, forget, if_seals, one_sealed, Goes, nothing, a_call, an_ask, an_order, a_proposal, a_vote, with_order as vote_with_order}
-use Rattle.journal_laws.proofs.Tests.{neither, holds, viewed, is_below}
+use Rattle.journal_laws.proofs.Tests.{viewed, is_below}
 
 -- Only the mark of the view increases, if any does.
 view_rises : (s t : Known) → InBounds s → t.views ≡ s.views → t.asked ≡ s.asked → t.ordered ≡ s.ordered → t.proposed ≡ s.proposed → t.safety.voted ≡ s.safety.voted → s.view ≤ t.view → t.view ≤ s.views → Goes s t
@@ -87,9 +87,9 @@ new_view_seals : (fits : Check) (gives : Gives) (s : State) (from : ℕ) (call :
 unfolding new_view_done
 new_view_seals fits gives s from call b p =
     let fit : (0 < call.view) × (call.view ≤ s.known.views) = viewed s.known call.view p.1.0 in
-    let new = neither (nat_lt call.view s.known.view) _ p.1.1.1.0 in
+    let new = or_parts (nat_lt call.view s.known.view) _ p.1.1.1.0 in
     let above : s.known.view ≤ call.view = ltb-false _ _ new.0 in
-    let asked : s.known.asked < call.view = leb-false _ _ (neither (nat_le call.view s.known.high.view) _ new.1).1 in
+    let asked : s.known.asked < call.view = leb-false _ _ (or_parts (nat_le call.view s.known.high.view) _ new.1).1 in
     let earlier : call.cert.view < call.view = is_below fits s.known call.cert call.view p.1.1.1.1.1.0 in
     let after : Known = joined from call s.known in
     let seen_now : Goes s.known after = seen_joined earlier fit.1 in
@@ -114,7 +114,7 @@ ask_seals : (fits : Check) (gives : Gives) (s : State) (from : ℕ) (call : Call
 unfolding ask_done
 ask_seals fits gives s from call b p =
     let fit : (0 < call.view) × (call.view ≤ s.known.views) = viewed s.known call.view p.1.0 in
-    let new = neither (nat_lt call.view s.known.view) _ p.1.1.1.0 in
+    let new = or_parts (nat_lt call.view s.known.view) _ p.1.1.1.0 in
     let above : s.known.view ≤ call.view = ltb-false _ _ new.0 in
     let unordered : s.known.ordered < call.view = leb-false _ _ p.1.1.1.1.1.1.1.0 in
     let after : Known = ordering call.view (seen call.cert s.known) in
@@ -134,9 +134,9 @@ ask_seals fits gives s from call b p =
 order_seals : (fits : Check) (gives : Gives) (s : State) (from : ℕ) (sealed : SealedOrder) → InBounds s.known → Passes (order_rows fits s.known from sealed) → SealsIn s.known (order_done gives s sealed)
 unfolding order_done proposal
 order_seals fits gives s from sealed b p =
-    let old = neither (not (nat_eq sealed.order.view s.known.asked)) _ p.1.1.1.0 in
-    let same : nat_eq sealed.order.view s.known.asked ≡ true = holds _ old.0 in
-    let other = neither (nat_lt sealed.order.view s.known.view) _ old.1 in
+    let old = or_parts (not (nat_eq sealed.order.view s.known.asked)) _ p.1.1.1.0 in
+    let same : nat_eq sealed.order.view s.known.asked ≡ true = not-false _ old.0 in
+    let other = or_parts (nat_lt sealed.order.view s.known.view) _ old.1 in
     let differs : nat_eq sealed.order.view s.known.proposed ≡ false = other.1 in
     let view_is : sealed.order.view ≡ s.known.asked = grind (arith, nat_tests) in
     let below : s.known.proposed < s.known.asked = grind (arith, nat_tests, b.proposed) in
@@ -205,7 +205,7 @@ unfolding propose_done
 propose_seals fits gives s from proposed b p q =
     let block : Block = proposed.block in
     let fit : (0 < block.view) × (block.view ≤ s.known.views) = viewed s.known block.view p.1.0 in
-    let new = neither (nat_lt block.view s.known.view) _ p.1.1.1.0 in
+    let new = or_parts (nat_lt block.view s.known.view) _ p.1.1.1.0 in
     let above : s.known.view ≤ block.view = ltb-false _ _ new.0 in
     let earlier : block.cert.view < block.view = is_below fits s.known block.cert block.view p.1.1.1.1.1.0 in
     let fresh : s.known.safety.voted < block.view = leb-false _ _ q.1.1.1.0 in
@@ -270,9 +270,9 @@ unfolding vote_done voting.keeping
 vote_seals fits gives s from voted b p =
     let vote : Vote = voted.vote in
     let fit : (0 < vote.view) × (vote.view ≤ s.known.views) = viewed s.known vote.view p.1.0 in
-    let old = neither (nat_lt (vote.view + 1) s.known.view) _ p.1.1.1.0 in
+    let old = or_parts (nat_lt (vote.view + 1) s.known.view) _ p.1.1.1.0 in
     let above : s.known.view ≤ vote.view + 1 = ltb-false _ _ old.0 in
-    let asked : s.known.asked < vote.view + 1 = leb-false _ _ (neither (nat_le vote.view s.known.high.view) _ old.1).1 in
+    let asked : s.known.asked < vote.view + 1 = leb-false _ _ (or_parts (nat_le vote.view s.known.high.view) _ old.1).1 in
     let next : Known = voting.keeping s.known vote.view vote.block (bare vote) voted.order in
     let h : SealsIn next (certified_if gives (knowing s next) (formed s.known vote.view vote.block (bare vote) voted.order)) =
     certified_seals gives (knowing s next) vote.view (formed s.known vote.view vote.block (bare vote) voted.order)

@@ -1,7 +1,7 @@
 -- The votes that a node stores are those that its journal shows, until they form a certificate.
 use Rattle.std.proofs.Common.{◌≡◌, ℕ, ◌<◌, ◌≤◌, List, [], ◌∷◌, ◌++◌, length, Bool, true, false, cond, Some, None, nat_eq, refl, sym, ap, ◌∙◌, inl, inr, arith, ◌||◌, ◌&&◌, ◌==◌}
 use Rattle.std.specs.Prelude.{All, find, not, unwrap_or}
-use Rattle.std.proofs.lemmas.Bool.{cases_Bool, eqb-true}
+use Rattle.std.proofs.lemmas.Bool.{and_parts, cases_Bool, eqb-true, or_parts}
 use Rattle.std.proofs.lemmas.Bool.Decides.{nat_tests}
 use Rattle.std.proofs.lemmas.List.Elements.{All-nil, All-cons, All-head, All-tail}
 use Rattle.seq_base.specs.declared.digest.Digest.{Digest}
@@ -16,7 +16,6 @@ use Rattle.node_core.specs.State.{Ballot}
 use Rattle.node_core.specs.Vote.{is_for, has_voted, empty_ballot}
 use Rattle.journal_rules.proofs.Voters.{voters_same}
 use Rattle.journal_laws.proofs.Firsts.{without_first, find_others}
-use Rattle.journal_laws.proofs.Tests.{neither, both}
 use Rattle.journal_rules.proofs.Stores.{true_eq, eq_true}
 
 -- ---- the ballots that are stored
@@ -63,7 +62,7 @@ no_vote_ties s high higher boxes prior e above none tied = record {
 -- ---- keys
 
 is_for_own : (v : ℕ) (d : Digest) (b : Ballot) → is_for v d b ≡ true → (b.view ≡ v) × (b.block ≡ d)
-is_for_own v d b is = let parts = both (nat_eq b.view v) (digest_eq b.block d) is in ((let same : nat_eq b.view v ≡ true = parts.0 in grind (arith, nat_tests)), eq_true b.block d parts.1)
+is_for_own v d b is = let parts = and_parts (nat_eq b.view v) (digest_eq b.block d) is in ((let same : nat_eq b.view v ≡ true = parts.0 in grind (arith, nat_tests)), eq_true b.block d parts.1)
 
 for_key : (v : ℕ) (d : Digest) (b : Ballot) → b.view ≡ v → b.block ≡ d → is_for v d b ≡ true
 for_key v d b view block =
@@ -102,7 +101,7 @@ box_unvoted s v d r (b ∷ boxes) none = by (is_for v d b) none (box_unvoted s v
   where
     by : (t : Bool) → ((t && has_vote b.votes.votes r) || has_voted boxes v d r) ≡ false → (has_voted boxes v d r ≡ false → has_vote (box_for s v d boxes).votes.votes r ≡ false)
         → has_vote (unwrap_or (cond t (Some b) (find (is_for v d) boxes)) (empty_ballot s v d)).votes.votes r ≡ false
-    by true is later = (neither (has_vote b.votes.votes r) (has_voted boxes v d r) is).0
+    by true is later = (or_parts (has_vote b.votes.votes r) (has_voted boxes v d r) is).0
     by false is later = later is
 
 -- ---- the other ballots
@@ -173,7 +172,7 @@ module _ (v : ℕ) (d : Digest) where
   pub apart_others : (boxes : List Ballot) → Apart boxes → Apart (without_first p boxes)
   apart_others boxes apart w e = elim (cases_Bool ((v == w) && digest_eq d e)) [
     | inl is ↦
-        let parts = both (v == w) (digest_eq d e) is in
+        let parts = and_parts (v == w) (digest_eq d e) is in
         let same_view : v ≡ w = eqb-true v w parts.0 in
         rw (← same_view, ← eq_true d e parts.1, none_without (without_first p boxes) (apart v d)) (apart v d)
     | inr not ↦

@@ -1,5 +1,6 @@
 -- A block stands alone in a prefix exactly where it clashes with no block of the store that is tied to it.
 use Rattle.std.proofs.Common.{◌≡◌, List, Bool, true, false, Option, Some, None, refl, sym, ap, subst, ◌∙◌}
+use Rattle.std.proofs.lemmas.List.Elements.{All-contains}
 use Rattle.std.specs.Prelude.{not}
 use Rattle.std.specs.Bool.{Decides}
 use Rattle.std.specs.Option.{option_map}
@@ -16,7 +17,6 @@ use Rattle.journal_rules.specs.Rules.{StandsAlone, stored_in}
 use Rattle.journal_rules.specs.Shown.{named}
 use Rattle.journal_rules.specs.Tests.{block_named}
 use Rattle.journal_rules.proofs.GrownStores.{not_clashing}
-use Rattle.journal_rules.proofs.Kept.{in_all}
 use Rattle.journal_rules.specs.Stores.{IsTied}
 use Rattle.journal_rules.proofs.Stores.{at_cases, at_other, false_eq}
 
@@ -24,7 +24,7 @@ module _ (store : List Block) (before : List Entry) (tied : IsTied store (stored
   found_one : (b : Block) → StandsAlone before (named b) → (x : Block) → block_at store (block_digest b) ≡ Some x → x ≡ b
   found_one b alone x found =
       let p = found_at (stored_in before) (block_digest b) (named x) (tied.same (block_digest b) ∙ at_other store (block_digest b) alone.other ∙ ap (option_map named) found) in
-      let same : named x ≡ named b = in_all (λ (c : Named). c.digest ≡ block_digest b → c ≡ named b) (stored_in before) (named x) alone.one p.0 p.1 in
+      let same : named x ≡ named b = All-contains (λ (c : Named). c.digest ≡ block_digest b → c ≡ named b) (stored_in before) (named x) alone.one p.0 p.1 in
       ap block_named same
 
   pub not_clashing_when : (b : Block) → StandsAlone before (named b) → clashes store (block_digest b) b ≡ false

@@ -29,7 +29,7 @@ use Rattle.journal_rules.specs.Shown.{ballot_in, named, shown, shown_message}
 use Rattle.journal_rules.proofs.Empty.{valid_over, valid_child, writable_over, writable_child, cert_writable, cert_good}
 use Rattle.journal_rules.proofs.Ends.{each_none, each_more}
 use Rattle.journal_rules.proofs.FirstBroken.{keep_all}
-use Rattle.journal_rules.proofs.OneEntry.{ReadsSpellings, itself, others}
+use Rattle.journal_rules.proofs.OneEntry.{ReadsSpellings, itself, others, few_marks}
 use Rattle.journal_rules.proofs.Stores.{false_eq, true_eq}
 
 -- ---- what is known of stored blocks
@@ -56,9 +56,6 @@ leads_to_first blocks v other = (1, (first_block, rw (false_eq (block_digest (ch
 
 abbrev once_in : List (List ℕ) → Type 0
 once_in statements = AllPairs (λ a b. a ≢ b) (marks_in statements)
-
-few_marks : (marks : List Mark) → length marks ≤ 1 → AllPairs (λ a b. a ≢ b) marks
-few_marks marks few i j d less inside = absurd (omega (arith, few, less, inside))
 
 few_votes : (votes : List Ballot) → length votes ≤ 1 → AllPairs (λ a b. a.view < b.view) votes
 few_votes votes few i j d less inside = absurd (omega (arith, few, less, inside))

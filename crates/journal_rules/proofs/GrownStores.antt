@@ -7,6 +7,7 @@ use Rattle.std.proofs.lemmas.List.Folds.{find-append}
 use Rattle.seq_base.specs.declared.digest.Digest.{Digest}
 use Rattle.seq_base.specs.declared.block.Block.{Block}
 use Rattle.seq_base.specs.Blocks.{first_digest, digest_eq}
+use Rattle.seq_base.proofs.Options.{or_none}
 use Rattle.block_store.specs.Store.{block_digest, has_digest, block_at, is_other, clashes, with_block}
 use Rattle.agreement_laws.specs.Journals.{Named, first_block}
 use Rattle.agreement_laws.specs.JournalPrefixes.{block_at as shown_at}
@@ -38,10 +39,6 @@ not_clashing store b alone = eq_false (block_digest b) first_digest (by (digest_
     by : (x y : Bool) → cond x true y ≡ false → x ≡ false
     by true y is = absurd (cc)
     by false y is = refl
-
-or_none : {X : Type 0} (o : Option X) → option_or o None ≡ o
-or_none None = refl
-or_none (Some x) = refl
 
 -- another digest finds the same block as before
 pub elsewhere : (store : List Block) (b : Block) (d : Digest) → (d ≡ block_digest b → ⊥) → block_at (with_block b store) d ≡ block_at store d

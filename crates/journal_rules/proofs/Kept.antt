@@ -1,9 +1,9 @@
 -- A lawful prefix satisfies the premises of the laws of agreement.
 use Rattle.std.proofs.Common.{◌≡◌, ◌+◌, ◌<◌, true, List, [], ◌∷◌, ◌++◌, length, map, Option, Some, None, refl, sym, ap, subst, ◌∙◌, append_assoc, ◌⊎◌, inl, inr, arith}
-use Rattle.std.specs.Prelude.{All, Contains}
+use Rattle.std.specs.Prelude.{Contains}
 use Rattle.std.specs.List.{filter_map, cons_option}
 use Rattle.std.proofs.lemmas.List.{length-map, get_or-map, append-nil, map-append}
-use Rattle.std.proofs.lemmas.List.Elements.{All-map, All-head, All-tail, filter_map-append, Contains-append_cases}
+use Rattle.std.proofs.lemmas.List.Elements.{All-contains, All-map, Contains-append_cases, filter_map-append}
 use Rattle.seq_base.specs.declared.block.Block.{Block}
 use Rattle.seq_base.specs.declared.block.Cert.{Cert}
 use Rattle.seq_base.specs.declared.block.CertVote.{CertVote}
@@ -57,13 +57,6 @@ stored_more prefix x n is = ap (λ (bs : List Named). first_block ∷ bs) (filte
 pub stored_same : (prefix : List Plain) (x : Plain) → stored_by x ≡ None → stored (prefix ++ x ∷ []) ≡ stored prefix
 stored_same prefix x is =
     ap (λ (bs : List Named). first_block ∷ bs) (filter_map-append stored_by prefix (x ∷ []) ∙ ap (λ (o : Option Named). filter_map stored_by prefix ++ cons_option o []) is ∙ append-nil (filter_map stored_by prefix))
-
-pub in_all : {X : Type 0} (P : X → Type 0) (xs : List X) (x : X) → All P xs → Contains xs x → P x
-in_all P [] x all inside = absurd (none_inside x inside)
-in_all P (y ∷ ys) x all inside = elim (here_or_there y ys x inside) [
-  | inl same ↦ subst P same (All-head P y ys all)
-  | inr rest ↦ in_all P ys x (All-tail P y ys all) rest
-]
 
 -- ---- what may be Done
 
@@ -128,10 +121,10 @@ unfolding OneBlock
 one_more by before e one takes a b in_a in_b same = elim (last_stored before e a in_a) [
   | inl early_a ↦ elim (last_stored before e b in_b) [
     | inl early_b ↦ one a b early_a early_b same
-    | inr late_b ↦ in_all (λ (c : Named). c.digest ≡ b.digest → c ≡ b) (stored (map shown before)) a (takes.alone b late_b).one early_a same
+    | inr late_b ↦ All-contains (λ (c : Named). c.digest ≡ b.digest → c ≡ b) (stored (map shown before)) a (takes.alone b late_b).one early_a same
   ]
   | inr late_a ↦ elim (last_stored before e b in_b) [
-    | inl early_b ↦ sym (in_all (λ (c : Named). c.digest ≡ a.digest → c ≡ a) (stored (map shown before)) b (takes.alone a late_a).one early_b (sym same))
+    | inl early_b ↦ sym (All-contains (λ (c : Named). c.digest ≡ a.digest → c ≡ a) (stored (map shown before)) b (takes.alone a late_a).one early_b (sym same))
     | inr late_b ↦ let both : Some a ≡ Some b = sym late_a ∙ late_b in (cc)
   ]
 ]

@@ -62,7 +62,7 @@ takes_nothing by e done may none own once = record {
   alone = λ b is. absurd (none b is);
 }
 
-few_marks : (marks : List Mark) → length marks ≤ 1 → AllPairs (λ a b. a ≢ b) marks
+pub few_marks : (marks : List Mark) → length marks ≤ 1 → AllPairs (λ a b. a ≢ b) marks
 few_marks marks few i j d less inside = absurd (omega (arith, few, less, inside))
 
 no_votes : (by : Scale) (e : Entry) → ballots_by e ≡ [] → Rises by [] e × Votes by [] e

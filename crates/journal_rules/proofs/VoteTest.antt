@@ -8,7 +8,7 @@ use Rattle.std.specs.Cmp.{unsigned_Decides}
 use Rattle.std.proofs.lemmas.Bool.{cases_Bool, false≢true, or_cases, or_left, or_right}
 use Rattle.std.proofs.lemmas.Bool.Decides.{Decides-and, Decides-or, Decides-ltb}
 use Rattle.std.proofs.lemmas.List.{append-nil}
-use Rattle.std.proofs.lemmas.List.Elements.{All-nil}
+use Rattle.std.proofs.lemmas.List.Elements.{All-contains, All-nil}
 use Rattle.seq_base.specs.Blocks.{first_digest, digest_eq, digest_eq_decides}
 use Rattle.agreement_laws.specs.Journals.{Named, Message, Ballot}
 use Rattle.agreement_laws.specs.JournalPrefixes.{block_of, block_at, Leads, LeadsTo, chain}
@@ -24,10 +24,10 @@ use Rattle.journal_rules.specs.Rules.{Scale, Takes, Votes, IsVoteFor, StandsAlon
 use Rattle.journal_rules.specs.Shown.{is_done, shown, ballot_in}
 use Rattle.journal_rules.specs.Tests.{votes, is_vote_for, is_safe, is_after}
 use Rattle.journal_rules.proofs.Later.{is_first, extends_first, on_chain, leads_on}
-use Rattle.journal_rules.proofs.Kept.{in_all, plainly}
+use Rattle.journal_rules.proofs.Kept.{plainly}
 use Rattle.journal_rules.proofs.RuleTests.{restate, all_decide}
 
-le_same : (n : ℕ) → n ≤ n
+pub le_same : (n : ℕ) → n ≤ n
 le_same n = omega arith
 
 -- some element passes
@@ -64,7 +64,7 @@ module _ (by : Scale) (before : List Entry) (kept : IsKeptPrefix by.setting (map
 
   after_is : is_after (stored_in before) b locked ≡ true → LeadsTo (stored_in before) b locked
   after_is tested = elim (or_cases (digest_eq locked.digest b.digest) _ tested) [
-    | inl own ↦ (0, sym (in_all (λ (c : Named). c.digest ≡ b.digest → c ≡ b) (stored_in before) locked alone.one in_lock ((digest_eq_decides locked.digest b.digest).0 own)))
+    | inl own ↦ (0, sym (All-contains (λ (c : Named). c.digest ≡ b.digest → c ≡ b) (stored_in before) locked alone.one in_lock ((digest_eq_decides locked.digest b.digest).0 own)))
     | inr rest ↦ elim (or_cases (digest_eq locked.digest first_digest) _ rest) [
       | inl first ↦
           let p = parent_is in

@@ -1,5 +1,5 @@
 -- From the replicas of a run to its record.
-use Rattle.std.proofs.Common.{◌≡◌, ℕ, zero, suc, ◌+◌, ◌<◌, ◌≤◌, List, [], ◌∷◌, length, map, get_or, Bool, true, false, cond, Option, Some, refl, sym, ap, subst, ◌∙◌, arith}
+use Rattle.std.proofs.Common.{◌≡◌, ℕ, zero, suc, ◌+◌, ◌<◌, ◌≤◌, List, [], ◌∷◌, length, Bool, true, false, cond, Option, Some, refl, sym, ap, subst, ◌∙◌, arith}
 use Rattle.std.specs.Prelude.{All, slice_get, ◌||◌, ◌==◌}
 use Rattle.std.specs.Option.{option_map, option_map_or}
 use Rattle.std.proofs.lemmas.Bool.Decides.{nat_tests}
@@ -9,7 +9,9 @@ use Rattle.seq_base.specs.declared.tx.Tx.{Tx}
 use Rattle.seq_base.specs.Lists.{AreDistinct}
 use Rattle.seq_base.specs.Setting.{Parameters}
 use Rattle.seq_base.specs.Tx.{FitsTx}
+use Rattle.seq_base.proofs.Options.{at_map}
 use Rattle.count_set.specs.Sets.{is_among, size_of}
+use Rattle.count_set.proofs.Counts.{size_none}
 use Rattle.fault_script.specs.Sealing.{Signer}
 use Rattle.node_core.specs.declared.event.Event.{Event}
 use Rattle.node_core.specs.declared.event.Event.TheVariants.{Arrived, Deliver, Tick}
@@ -56,10 +58,6 @@ size_or (suc n) a b = (let rest : size_of n (λ r. a r || b r) ≤ size_of n a +
     by false true rest = omega (arith, rest)
     by false false rest = omega (arith, rest)
 
-size_none : (n : ℕ) → size_of n (λ r. false) ≡ 0
-size_none zero = refl
-size_none (suc n) = (let rest : size_of n (λ r. false) ≡ 0 = size_none n in omega (arith, rest))
-
 size_above : (n x : ℕ) → n ≤ x → size_of n (λ r. x == r) ≡ 0
 size_above zero x above = refl
 size_above (suc n) x above =
@@ -84,11 +82,6 @@ size_among n (x ∷ xs) =
     omega (arith, both, one, rest)
 
 -- ---- a replica's part of a record
-
-at_map : {X Y : Type 0} (f : X → Y) (xs : List X) (k : ℕ) (x : X) (d : Y) → slice_get xs k ≡ Some x → get_or (map f xs) k d ≡ f x
-at_map f [] k x d found = absurd (cc)
-at_map f (y ∷ xs) zero x d found = let same : y ≡ x = cc in ap f same
-at_map f (y ∷ xs) (suc k) x d found = at_map f xs k x d found
 
 -- ---- the events of a journal
 

@@ -13,7 +13,7 @@ use Rattle.std.proofs.lemmas.Map.Keys.{Less-from_sorted}
 use Rattle.std.proofs.lemmas.Option.{slice_get-get_or}
 use Rattle.seq_base.specs.declared.tx.Tx.{Tx}
 use Rattle.seq_base.specs.Lists.{holds}
-use Rattle.seq_base.proofs.Members.{place_holds}
+use Rattle.seq_base.proofs.Members.{place_holds, any_tx}
 use Rattle.seq_base.specs.Setting.{Parameters}
 use Rattle.seq_base.specs.Tx.{tx_cmp, tx_cmp_total, tx_eq, tx_eq_decides}
 use Rattle.majority_graph.specs.declared.edge.Edge.TheVariants.{To, From, Missing}
@@ -65,9 +65,6 @@ apart : (vertices : List Tx) (a b : Tx) → holds a vertices ≡ true → holds 
 apart vertices a b one other below same =
     let equal : b ≡ a = sym (at_place vertices b other) ∙ ap (tx_at vertices) (sym same) ∙ at_place vertices a one in
     (cc (subst (λ (z : Tx). tx_cmp a z ≡ Less) equal below, tied_itself tx_cmp_total a))
-
-any_tx : Tx
-any_tx = record { client = 0; number = 0; payload = 0 }
 
 pub numbers_joined : (g : Graph) (txs : List Tx) → ((u v : ℕ) → u < length g.vertices → v < length g.vertices → u ≢ v → HasEdge g u v ⊎ HasEdge g v u)
     → IsStrictlySortedBy tx_cmp txs → AreHeld g.vertices txs → HaveEdges g (numbered g.vertices txs)

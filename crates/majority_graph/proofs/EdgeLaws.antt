@@ -12,6 +12,7 @@ use Rattle.std.proofs.lemmas.List.Elements.{All-map}
 use Rattle.seq_base.specs.declared.tx.Tx.{Tx}
 use Rattle.seq_base.specs.Tx.{tx_cmp, tx_cmp_total}
 use Rattle.seq_base.specs.Setting.{Parameters, threshold_of}
+use Rattle.seq_base.proofs.Members.{any_tx}
 use Rattle.majority_graph.specs.declared.edge.Edge.{Edge}
 use Rattle.majority_graph.specs.declared.edge.Edge.TheVariants.{To, From, Missing}
 use Rattle.majority_graph.specs.Edges.{outweighs, gives_edge, edge_between, opposite_of}
@@ -56,9 +57,6 @@ pub edge_at-graph_of : (s : Parameters) (lists : List (List Tx)) (vertices : Lis
 edge_at-graph_of s lists vertices u v d from to =
     ap (λ (row : List Edge). get_or row v Missing) (get_or-map (λ (a : Tx). map (edge_between s lists a) vertices) vertices u d [] from)
     ∙ get_or-map (edge_between s lists (get_or vertices u d)) vertices v d Missing to
-
-any_tx : Tx
-any_tx = record { client = 0; number = 0; payload = 0 }
 
 -- the graph that the lists give meets the invariant
 pub IsGraph-graph_of : (s : Parameters) (lists : List (List Tx)) (vertices : List Tx) → IsStrictlySortedBy tx_cmp vertices → length vertices ≤ 2048 → IsGraph (graph_of s lists vertices)

@@ -11,13 +11,10 @@ use Rattle.seq_base.specs.declared.tx.Tx.{Tx}
 use Rattle.seq_base.specs.Lists.{holds, listed}
 use Rattle.seq_base.specs.Tx.{tx_cmp, tx_eq, tx_cmp_total, tx_eq_ties, tx_eq_decides}
 use Rattle.seq_base.specs.Setting.{Parameters, threshold_of, solid_of}
+use Rattle.seq_base.proofs.Points.{point}
 use Rattle.majority_graph.specs.declared.edge.Edge.TheVariants.{To, From, Missing}
 use Rattle.majority_graph.specs.Edges.{outweighs, gives_edge, edge_between}
 use Rattle.majority_graph.specs.Weights.{ranks_above, weight}
-
--- one for a list that counts
-abbrev point : Bool → ℕ
-point b = cond b 1 0
 
 -- in a list that holds u, one of u and v ranks above the other
 ranked_if_held : (u v : Tx) (xs : List Tx) → u ≢ v → holds u xs ≡ true → point (ranks_above u v xs) + point (ranks_above v u xs) ≡ 1

@@ -5,6 +5,7 @@ pub mod FaultWords
 pub mod Give
 pub mod Idle
 pub mod Judged
+pub mod Memory
 pub mod NewView
 pub mod Order
 pub mod Propose

@@ -9,6 +9,7 @@ ghost use Rattle.node_core.specs.contracts.node.Node.{the_row};
 ghost use Rattle.node_core.specs.State.{fresh_seat, KeepsSeat, with_sealer};
 ghost use Rattle.node_core.specs.Rows.{chain_at};
 ghost use Rattle.node_core.specs.Idle.{Changes};
+ghost use Rattle.node_core.specs.Memory.{judging_takes_memory, MayRunOut};
 ghost use Rattle.node_core.specs.Turn.{turn_of};
 ghost use Rattle.node_core.specs.Readable.{IsReadable};
 
@@ -114,6 +115,8 @@ impl<S: Sealer> Node<S> {
     }
 
     /// The turn on an event, by the turn table. After a fault the node is halted, and each later turn returns `Halted`.
+    /// `NoMemory` is returned only where the event changes the node or is judged with memory: not for bytes that are no
+    /// message, for a message that is refused before a copy of it is made, or for a tick at the last view.
     pub fn turn<C: Checker>(&mut self, checker: &C, event: &Event) -> Result<Turned, NodeFault>
         ensures ok { IfOk result (λ t.
             turn_of (C.meaning checker.now) (S.gives self.old.sealer) self.old.state event.now ≡ record { reported = t; state = self.new.state }) }
@@ -123,6 +126,7 @@ impl<S: Sealer> Node<S> {
         ensures halted { (result ≡ Err NodeFault.Halted) ↔ IsTrue self.old.halted }
         ensures stopped { OnErr result (IsTrue self.new.halted) }
         ensures running { OnOk result (self.new.halted ≡ false) }
+        ensures memory { result ≡ Err NodeFault.NoMemory → MayRunOut (C.meaning checker.now) self.old.state event.now (turn_of (C.meaning checker.now) (S.gives self.old.sealer) self.old.state event.now) }
     {
         if self.halted {
             return Err(NodeFault::Halted);
@@ -141,6 +145,7 @@ impl<S: Sealer> Node<S> {
             turn_of (C.meaning checker.now) (S.gives self.old.sealer) self.old.state event.now ≡ record { reported = t; state = self.new.state }) }
         ensures readable { OnOk result (IsReadable event.now) }
         ensures seat { KeepsSeat S.Sealer self.old self.new }
+        ensures memory { OnErr result (MayRunOut (C.meaning checker.now) self.old.state event.now (turn_of (C.meaning checker.now) (S.gives self.old.sealer) self.old.state event.now)) }
     {
         match self.judge(checker, event)? {
             Judged::Idle(turned) => Ok(turned),
@@ -150,7 +155,8 @@ impl<S: Sealer> Node<S> {
 
     /// The turn on an event that changes nothing, so that a host need not log the event. It seals nothing, but it may
     /// send: a Fetch or the answer to one. `None` means that the event changes the node, so call [`Node::turn`]. A
-    /// halted node returns `Halted`. Out of memory, the result is `NoMemory`, and the node is not halted.
+    /// halted node returns `Halted`. Out of memory, the result is `NoMemory`, and the node is not halted. That can be only
+    /// where the event is judged with memory.
     pub fn idle_turn<C: Checker>(
         &self,
         checker: &C,
@@ -163,6 +169,7 @@ impl<S: Sealer> Node<S> {
         ensures unsealed { IfOk result (λ t. IfSome t (λ reported. reported.sealed ≡ [])) }
         ensures readable { OnOk result (IsReadable event.now) }
         ensures halted { (result ≡ Err NodeFault.Halted) ↔ IsTrue self.now.halted }
+        ensures memory { result ≡ Err NodeFault.NoMemory → IsTrue (judging_takes_memory (C.meaning checker.now) self.now.state.known event.now) }
     {
         if self.halted {
             return Err(NodeFault::Halted);

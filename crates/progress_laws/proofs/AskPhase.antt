@@ -14,7 +14,6 @@ use Rattle.seq_base.specs.Spelling.{order_spelling, message_spelling}
 use Rattle.wire_view.specs.Views.{Call}
 use Rattle.wire_view.specs.declared.fault.WireFault.{WireFault}
 use Rattle.wire_view.specs.declared.messages.MessageView.{MessageView}
-use Rattle.node_core.specs.declared.event.Event.{Event}
 use Rattle.node_core.specs.declared.event.Event.TheVariants.{Deliver}
 use Rattle.node_core.specs.declared.event.Reason.TheVariants.{Done}
 use Rattle.node_core.specs.State.{State}
@@ -24,7 +23,6 @@ use Rattle.node_core.specs.Ask.{on_ask}
 use Rattle.replica_seat.specs.declared.seat.Envelope.{Envelope}
 use Rattle.replay_run.specs.World.{World}
 use Rattle.run_verdict.specs.Forged.{parts_in}
-use Rattle.run_verdict.specs.Parts.{Part}
 use Rattle.progress_laws.proofs.StateSummary.{Rest, standing, state_at, saw}
 use Rattle.progress_laws.proofs.ProposeStep.{order_over}
 use Rattle.progress_laws.proofs.CallSteps.{draws}
@@ -40,26 +38,11 @@ module _ (course : Course) (rests : Rests course) where
   abbrev L : ℕ
   L = leader_of s 1
 
-  abbrev Seal : Part → Type 0
-  Seal = Sealed course
-
-  abbrev Happens : ℕ → Event → Outcome → Type 0
-  Happens i e o = Has course i e o.reported
-
   abbrev at : ℕ → Rest → ℕ → ℕ → State
   at i rest made capacity = state_at (standing s course.plan.views i (course.lists i) [] 1 rest) made capacity
 
   one_view : 1 ≤ course.plan.views
   one_view = (let v : 4 ≤ course.plan.views = rests.views in omega (arith, v))
-
-  abbrev Goes : (ℕ → State → Type 0) → World → Type 0
-  Goes P w = Going course P w
-
-  abbrev EndsIn : ℕ → World → Type 0
-  EndsIn = Ends course
-
-  abbrev ups : ℕ → ℕ
-  ups steps = up s.n steps
 
   module _ (i : ℕ) (below : i < s.n) (e : Envelope) (st : State) (a : Asks course i e) (h : Asked course 0 0 2 i st) where
     abbrev asked_call : Call
@@ -93,10 +76,10 @@ module _ (course : Course) (rests : Rests course) where
         (let m : h.opens.made ≤ 2 = h.opens.few_made in let c : 20 ≤ h.opens.capacity = h.opens.room in omega (arith, m, c))
 
     ask_parts : AreSealed course (Deliver e.from e.bytes)
-    ask_parts = subst (λ (r : Result MessageView WireFault). Each Seal (parts_in (result_ok r))) (sym a.read) (a.was_sealed, tt)
+    ask_parts = subst (λ (r : Result MessageView WireFault). Each (Sealed course) (parts_in (result_ok r))) (sym a.read) (a.was_sealed, tt)
 
-    module _ (happened : Happens i (Deliver e.from e.bytes) drawing) where
-      own_good : IsGoodOrder course.fits s course.lists Seal [] own_sealed
+    module _ (happened : Has course i (Deliver e.from e.bytes) drawing.reported) where
+      own_good : IsGoodOrder course.fits s course.lists (Sealed course) [] own_sealed
       own_good = record {
         below = below;
         drawn = refl;
@@ -132,19 +115,19 @@ module _ (course : Course) (rests : Rests course) where
           from = refl;
           to = refl;
           sealed = own_sealed;
-          read = rests.reads (sent.Order own_sealed) (order_written course.fits s course.lists Seal [] rests.small rests.proper (omega arith) own_sealed own_good);
+          read = rests.reads (sent.Order own_sealed) (order_written course.fits s course.lists (Sealed course) [] rests.small rests.proper (omega arith) own_sealed own_good);
           own = refl;
           good = own_good;
         };
       }
 
-  ask_turn : (i : ℕ) (e : Envelope) (st : State) (o : Outcome) → i < s.n → Asks course i e → Asked course 0 0 2 i st → o ≡ turn_of course.fits (course.gives i) st (Deliver e.from e.bytes) → Happens i (Deliver e.from e.bytes) o
+  ask_turn : (i : ℕ) (e : Envelope) (st : State) (o : Outcome) → i < s.n → Asks course i e → Asked course 0 0 2 i st → o ≡ turn_of course.fits (course.gives i) st (Deliver e.from e.bytes) → Has course i (Deliver e.from e.bytes) o.reported
       → OutTurn course (Asked course 0 0 2) (Asked course 1 0 3) (Asks course) (Orders course) i e o
   ask_turn i e st o below a h is happened =
-      subst (λ (x : Outcome). Happens i (Deliver e.from e.bytes) x → OutTurn course (Asked course 0 0 2) (Asked course 1 0 3) (Asks course) (Orders course) i e x)
+      subst (λ (x : Outcome). Has course i (Deliver e.from e.bytes) x.reported → OutTurn course (Asked course 0 0 2) (Asked course 1 0 3) (Asks course) (Orders course) i e x)
       (sym (is ∙ draws_so i below e st a h)) (draw_turn i below e st a h) happened
 
   -- All are asked and send their orders.
-  pub ask_phase : (steps last : ℕ) → last ≤ 10 * s.n → ((v : World) → Goes (Asked course 1 0 3) v → Queue (Orders course) 0 s.n v.queue → v.turns ≡ last → EndsIn steps v)
-      → (w : World) → Goes (Asked course 0 0 2) w → Queue (Asks course) 0 s.n w.queue → w.turns + s.n ≡ last → EndsIn (ups steps) w
+  pub ask_phase : (steps last : ℕ) → last ≤ 10 * s.n → ((v : World) → Going course (Asked course 1 0 3) v → Queue (Orders course) 0 s.n v.queue → v.turns ≡ last → Ends course steps v)
+      → (w : World) → Going course (Asked course 0 0 2) w → Queue (Asks course) 0 s.n w.queue → w.turns + s.n ≡ last → Ends course (up s.n steps) w
   ask_phase steps last few next = fan_out course (Asked course 0 0 2) (Asked course 1 0 3) (Asks course) (Orders course) (λ i e a. a.to_is) ask_turn steps last few next

@@ -12,7 +12,6 @@ use Rattle.seq_base.specs.Writable.{IsWritable}
 use Rattle.wire_view.specs.Views.{Call}
 use Rattle.wire_view.specs.declared.fault.WireFault.{WireFault}
 use Rattle.wire_view.specs.declared.messages.MessageView.{MessageView}
-use Rattle.node_core.specs.declared.event.Event.{Event}
 use Rattle.node_core.specs.declared.event.Event.TheVariants.{Deliver}
 use Rattle.node_core.specs.declared.event.Reason.TheVariants.{Done, OldView}
 use Rattle.node_core.specs.State.{State}
@@ -22,7 +21,6 @@ use Rattle.node_core.specs.NewView.{on_new_view}
 use Rattle.replica_seat.specs.declared.seat.Envelope.{Envelope}
 use Rattle.replay_run.specs.World.{World}
 use Rattle.run_verdict.specs.Forged.{parts_in}
-use Rattle.run_verdict.specs.Parts.{Part}
 use Rattle.progress_laws.proofs.StateSummary.{Rest, standing, state_at, saw}
 use Rattle.progress_laws.proofs.CallSteps.{AreCalls, calls_more, IsCall, call_late, call_kept, call_last}
 use Rattle.progress_laws.proofs.Phases.{Queue, AreSealed, Ends, Going, InTurn, fan_in, up, compared, Course}
@@ -41,26 +39,11 @@ module _ (course : Course) (rests : Rests course) where
   abbrev q : ℕ
   q = quorum_of s
 
-  abbrev Seal : Part → Type 0
-  Seal = Sealed course
-
-  abbrev Happens : ℕ → Event → Outcome → Type 0
-  Happens i e o = Has course i e o.reported
-
   abbrev at : ℕ → Rest → ℕ → ℕ → State
   at i rest made capacity = state_at (standing s course.plan.views i (course.lists i) [] 1 rest) made capacity
 
   one_view : 1 ≤ course.plan.views
   one_view = (let v : 4 ≤ course.plan.views = rests.views in omega (arith, v))
-
-  abbrev Goes : (ℕ → State → Type 0) → World → Type 0
-  Goes P w = Going course P w
-
-  abbrev EndsIn : ℕ → World → Type 0
-  EndsIn = Ends course
-
-  abbrev ups : ℕ → ℕ
-  ups steps = up s.n steps
 
   pub record CallsKept (k : ℕ) (st : State) : Type 0 where
     pub opens : Opens course 0 0 0 1 L st
@@ -78,7 +61,7 @@ module _ (course : Course) (rests : Rests course) where
     call = record { kind = NEW_VIEW; replica = k; view = 1; cert = first_cert; seal = c.seal }
 
     call_parts : AreSealed course (Deliver e.from e.bytes)
-    call_parts = subst (λ (r : Result MessageView WireFault). Each Seal (parts_in (result_ok r))) (sym c.read) (c.was_sealed, tt)
+    call_parts = subst (λ (r : Result MessageView WireFault). Each (Sealed course) (parts_in (result_ok r))) (sym c.read) (c.was_sealed, tt)
 
     call_turn_is : (x : State) → st ≡ x → turn_of course.fits (course.gives L) st (Deliver e.from e.bytes) ≡ on_new_view course.fits (course.gives L) x k call
     call_turn_is x is =
@@ -169,13 +152,13 @@ module _ (course : Course) (rests : Rests course) where
         first_written,
       )
 
-      call_is_last : suc k ≡ q → (o : Outcome) → o ≡ turn_of course.fits (course.gives L) st (Deliver e.from e.bytes) → Happens L (Deliver e.from e.bytes) o → CallTurns k e o
+      call_is_last : suc k ≡ q → (o : Outcome) → o ≡ turn_of course.fits (course.gives L) st (Deliver e.from e.bytes) → Has course L (Deliver e.from e.bytes) o.reported → CallTurns k e o
       call_is_last now o is happened =
           let same : o ≡ asking first_cert = is ∙ call_turn_is (at L rest h.opens.made h.opens.capacity) h.opens.is
           ∙ call_last course.fits (course.gives L) s course.plan.views L (course.lists L) [] no_chain 1 from_one one_view k call this refl rest h.opens.made h.opens.capacity high_low not_asked h.calls h.many
           (let m : length rest.gathered ≡ k = h.many in omega (arith, m, now)) (let m : h.opens.made ≤ 1 = h.opens.few_made in let c : 20 ≤ h.opens.capacity = h.opens.room in omega (arith, m, c))
           ∙ ap asking (higher_first rest.high h.opens.high) in
-          subst (λ (x : Outcome). Happens L (Deliver e.from e.bytes) x → CallTurns k e x) (sym same)
+          subst (λ (x : Outcome). Has course L (Deliver e.from e.bytes) x.reported → CallTurns k e x) (sym same)
           (λ happens. record {
             parts = call_parts;
             state = (
@@ -210,7 +193,7 @@ module _ (course : Course) (rests : Rests course) where
             else = λ other. absurd (other now);
           }) happened
 
-  call_turn : (k : ℕ) (e : Envelope) (st : State) (o : Outcome) → k < s.n → Calls course k e → CallCount k st → o ≡ turn_of course.fits (course.gives L) st (Deliver e.from e.bytes) → Happens L (Deliver e.from e.bytes) o → CallTurns k e o
+  call_turn : (k : ℕ) (e : Envelope) (st : State) (o : Outcome) → k < s.n → Calls course k e → CallCount k st → o ≡ turn_of course.fits (course.gives L) st (Deliver e.from e.bytes) → Has course L (Deliver e.from e.bytes) o.reported → CallTurns k e o
   call_turn k e st o inside b c is happened = by (compared k q)
     where
       by : (suc k < q) ⊎ ((suc k ≡ q) ⊎ (q ≤ k)) → CallTurns k e o
@@ -238,8 +221,8 @@ module _ (course : Course) (rests : Rests course) where
   }
 
   -- All calls are delivered to the leader, which asks.
-  pub call_phase : (steps last : ℕ) → last ≤ 10 * s.n → ((v : World) → Goes (Asked course 0 0 2) v → Queue (Asks course) 0 s.n v.queue → v.turns ≡ last → EndsIn steps v)
-      → (w : World) → Goes (Called course) w → Queue (Calls course) 0 s.n w.queue → w.turns + s.n ≡ last → EndsIn (ups steps) w
+  pub call_phase : (steps last : ℕ) → last ≤ 10 * s.n → ((v : World) → Going course (Asked course 0 0 2) v → Queue (Asks course) 0 s.n v.queue → v.turns ≡ last → Ends course steps v)
+      → (w : World) → Going course (Called course) w → Queue (Calls course) 0 s.n w.queue → w.turns + s.n ≡ last → Ends course (up s.n steps) w
   call_phase steps last few next w g queue turns =
       fan_in course L (rests.leader 1) q rests.wanted rests.few_wanted (Called course) CallCount (Calls course) (Queue (Asks course) 0 s.n)
       (λ i e b. b.to_is) call_turn steps last few

@@ -21,9 +21,9 @@ use Rattle.node_core.specs.NewView.{new_view_rows, new_view_reason, new_view_don
 use Rattle.node_core.specs.Ask.{ask_rows, ask_reason, ask_done, order_of_view, on_ask}
 use Rattle.node_core.specs.Turn.{on_tick}
 use Rattle.progress_laws.proofs.Chains.{IsChain, digest_at, is_stored_at}
-use Rattle.progress_laws.proofs.StateSummary.{eq_yes, eq_no, lt_yes, lt_no, le_yes, le_no, not_yes, and_yes, or_no, passes_all, Rest, standing, state_at, higher, saw, sees, no_bad}
+use Rattle.progress_laws.proofs.StateSummary.{eq_yes, eq_no, lt_yes, lt_no, le_yes, le_no, passes_all, Rest, standing, state_at, higher, saw, sees, no_bad}
 use Rattle.progress_laws.proofs.ProposeStep.{order_over}
-use Rattle.std.proofs.lemmas.Bool.{or_right}
+use Rattle.std.proofs.lemmas.Bool.{and_from, not_from_true, or_from, or_right}
 
 -- ---- calls of one view, from consecutive replicas
 
@@ -99,19 +99,19 @@ module _ (fits : Check) (gives : Gives) (s : Parameters) (views me : ℕ) (list 
 
       in_time : (rest : Rest) → rest.high.view < v → rest.asked < v → AreCalls v 0 rest.gathered → length rest.gathered ≤ replica → new_view_reason fits (before rest) replica call ≡ Done
       in_time rest high asked calls few = passes_all (new_view_rows fits (before rest) replica call) (
-        not_yes _ (eq_yes call.replica replica is.own),
+        not_from_true _ (eq_yes call.replica replica is.own),
         (
-          not_yes _ (and_yes _ _ (lt_yes 0 call.view (omega (arith, is.view, some))) (le_yes call.view views (omega (arith, is.view, inside)))),
+          not_from_true _ (and_from _ _ (lt_yes 0 call.view (omega (arith, is.view, some))) (le_yes call.view views (omega (arith, is.view, inside)))),
           (
-            not_yes _ (eq_yes _ me (ap (leader_of s) is.view ∙ leads)),
+            not_from_true _ (eq_yes _ me (ap (leader_of s) is.view ∙ leads)),
             (
-              or_no _ _ (lt_no call.view v (omega (arith, is.view))) (or_no _ _ (le_no call.view rest.high.view (omega (arith, is.view, high))) (le_no call.view rest.asked (omega (arith, is.view, asked)))),
+              or_from _ _ (lt_no call.view v (omega (arith, is.view))) (or_from _ _ (le_no call.view rest.high.view (omega (arith, is.view, high))) (le_no call.view rest.asked (omega (arith, is.view, asked)))),
               (
-                not_yes _ is.seal_fits,
+                not_from_true _ is.seal_fits,
                 (
                   no_bad s views me list bs chain fits (before rest) call.cert call.view refl refl (omega (arith, is.view, is.below)) is.stored is.block is.good,
                   (
-                    not_yes _ (rw is.block (is_stored_at bs chain call.cert.view is.stored)),
+                    not_from_true _ (rw is.block (is_stored_at bs chain call.cert.view is.stored)),
                     (
                       rw is.view (not_called v 0 replica rest.gathered calls (omega (arith, few))),
                       tt,
@@ -170,19 +170,19 @@ module _ (fits : Check) (gives : Gives) (s : Parameters) (views me : ℕ) (list 
     module _ (leader : ℕ) (call : Call) (is : IsCall 2 leader v call) (leads : leader ≡ leader_of s v) where
       to_be_drawn : (rest : Rest) → rest.high.view < v → rest.ordered < v → ask_reason fits (before rest) leader call ≡ Done
       to_be_drawn rest high ordered = passes_all (ask_rows fits (before rest) leader call) (
-        not_yes _ (eq_yes call.replica leader is.own),
+        not_from_true _ (eq_yes call.replica leader is.own),
         (
-          not_yes _ (and_yes _ _ (lt_yes 0 call.view (omega (arith, is.view, some))) (le_yes call.view views (omega (arith, is.view, inside)))),
+          not_from_true _ (and_from _ _ (lt_yes 0 call.view (omega (arith, is.view, some))) (le_yes call.view views (omega (arith, is.view, inside)))),
           (
-            not_yes _ (eq_yes leader _ (leads ∙ ap (leader_of s) (sym is.view))),
+            not_from_true _ (eq_yes leader _ (leads ∙ ap (leader_of s) (sym is.view))),
             (
-              or_no _ _ (lt_no call.view v (omega (arith, is.view))) (le_no call.view rest.high.view (omega (arith, is.view, high))),
+              or_from _ _ (lt_no call.view v (omega (arith, is.view))) (le_no call.view rest.high.view (omega (arith, is.view, high))),
               (
-                not_yes _ is.seal_fits,
+                not_from_true _ is.seal_fits,
                 (
                   no_bad s views me list bs chain fits (before rest) call.cert call.view refl refl (omega (arith, is.view, is.below)) is.stored is.block is.good,
                   (
-                    not_yes _ (rw is.block (is_stored_at bs chain call.cert.view is.stored)),
+                    not_from_true _ (rw is.block (is_stored_at bs chain call.cert.view is.stored)),
                     (
                       le_no call.view rest.ordered (omega (arith, is.view, ordered)),
                       tt,

@@ -2,15 +2,17 @@
 -- them.
 use Rattle.std.proofs.Common.{◌≡◌, ◌≢◌, ℕ, zero, suc, pred, ◌+◌, ◌<◌, ◌≤◌, List, [], ◌∷◌, ◌++◌, length, Bool, true, false, cond, nat_lt, Option, Some, None, refl, sym, ap, ◌∙◌, inl, inr, arith}
 use Rattle.std.specs.Prelude.{slice_get, find, unwrap_or, ◌==◌}
-use Rattle.std.proofs.lemmas.Bool.{cases_Bool, false_from_ne_true}
+use Rattle.std.proofs.lemmas.Bool.{cases_Bool}
 use Rattle.std.proofs.lemmas.Bool.Decides.{nat_tests}
+use Rattle.std.proofs.lemmas.List.{nil_from_length}
 use Rattle.std.proofs.lemmas.Option.{slice_get_within, same_Some}
 use Rattle.seq_base.specs.declared.digest.Digest.{Digest}
 use Rattle.seq_base.specs.declared.block.Block.{Block}
-use Rattle.seq_base.specs.Blocks.{first_digest, digest_eq, digest_eq_decides}
+use Rattle.seq_base.specs.Blocks.{first_digest}
 use Rattle.block_store.specs.Store.{block_digest, has_digest, block_at, is_stored, view_of, clashes, with_block}
 use Rattle.block_store.specs.Chains.{parent_of}
 use Rattle.hotstuff_core.specs.Rules.{State as Safe, view_at, is_safe, moved, seen_in}
+use Rattle.journal_rules.proofs.Stores.{eq_true, false_eq, true_eq}
 use Rattle.lawful_runs.proofs.Places.{found_at}
 use Rattle.progress_laws.proofs.Items.{get_prefix, get_more}
 
@@ -31,21 +33,6 @@ find_only p (y ∷ xs) (suc k) x found is only = elim (cases_Bool (p y)) [
 find_none : {X : Type 0} (p : X → Bool) (xs : List X) → ((j : ℕ) (y : X) → slice_get xs j ≡ Some y → p y ≡ false) → find p xs ≡ None
 find_none p [] none = refl
 find_none p (y ∷ xs) none = rw (none zero y refl) (find_none p xs (λ j z at. none (suc j) z at))
-
-pub no_items : {X : Type 0} (xs : List X) → length xs ≡ 0 → xs ≡ []
-no_items [] none = refl
-no_items (x ∷ xs) none = absurd (omega (arith, none))
-
--- ---- digests
-
-pub true_eq : (a b : Digest) → a ≡ b → digest_eq a b ≡ true
-true_eq a b same = (digest_eq_decides a b).1 same
-
-pub eq_true : (a b : Digest) → digest_eq a b ≡ true → a ≡ b
-eq_true a b is = (digest_eq_decides a b).0 is
-
-pub false_eq : (a b : Digest) → (a ≡ b → ⊥) → digest_eq a b ≡ false
-false_eq a b other = false_from_ne_true (digest_eq a b) (λ is. other (eq_true a b is))
 
 -- ---- chains
 
@@ -134,7 +121,7 @@ module _ (bs : List Block) (chain : IsChain bs) where
       by m is true less = rw less
       by zero is false less =
           let none : h ≡ 0 = omega (arith, low, is) in
-          let empty : bs ≡ [] = no_items bs is in
+          let empty : bs ≡ [] = nil_from_length bs is in
           rw (less, block, is, none) refl
       by (suc m) is false less =
           let lower : view_at bs (digest_at bs (pred h)) ≡ pred h = view_at_is (pred h) (omega (arith, low)) in

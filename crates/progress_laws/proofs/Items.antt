@@ -1,8 +1,7 @@
 -- Items of lists at places, and what holds of each item.
 use Rattle.std.proofs.Common.{◌≡◌, ℕ, zero, suc, ◌+◌, ◌<◌, List, [], ◌∷◌, ◌++◌, length, map, Bool, true, Some, refl, sym, ap, subst, ◌∙◌, arith}
 use Rattle.std.specs.Prelude.{All, slice_get, slice_set}
-use Rattle.std.specs.List.{AllByRecursion as Each, list_all, list_any, range_with_len}
-use Rattle.std.proofs.lemmas.Bool.{or_left, or_right}
+use Rattle.std.specs.List.{AllByRecursion as Each, list_all, range_with_len}
 use Rattle.std.proofs.lemmas.List.Elements.{All-head, All-tail}
 
 -- ---- at places
@@ -82,8 +81,3 @@ each_map h P (x ∷ xs) each = (each.0, each_map h P xs each.1)
 pub all_pass : {X : Type 0} (p : X → Bool) (xs : List X) → Each (λ x. p x ≡ true) xs → list_all p xs ≡ true
 all_pass p [] each = refl
 all_pass p (x ∷ xs) each = rw each.0 (all_pass p xs each.1)
-
-pub any_at : {X : Type 0} (p : X → Bool) (xs : List X) (k : ℕ) (x : X) → slice_get xs k ≡ Some x → p x ≡ true → list_any p xs ≡ true
-any_at p [] k x found is = absurd (cc)
-any_at p (y ∷ xs) zero x found is = (let same : y ≡ x = cc in or_left (p y) (list_any p xs) (ap p same ∙ is))
-any_at p (y ∷ xs) (suc k) x found is = or_right (p y) (list_any p xs) (any_at p xs k x found is)

@@ -1,11 +1,8 @@
 -- What can be written, and the block that a leader makes of n-f votes and orders.
-use Rattle.std.proofs.Common.{◌≡◌, ◌≢◌, ℕ, zero, suc, ◌+◌, ◌^◌, ◌<◌, ◌≤◌, List, [], ◌∷◌, length, take, map, min, Bool, true, false, refl, sym, ap, subst, ◌∙◌, arith, length-take, get_or-take}
+use Rattle.std.proofs.Common.{◌≡◌, ℕ, zero, suc, ◌+◌, ◌^◌, ◌<◌, ◌≤◌, List, [], ◌∷◌, length, take, map, Bool, true, false, refl, sym, ap, subst, ◌∙◌, arith}
 use Rattle.std.specs.Prelude.{All, filter, not, ◌==◌}
 use Rattle.std.specs.List.{AllByRecursion as Each, list_all}
 use Rattle.std.proofs.lemmas.Bool.Decides.{nat_tests}
-use Rattle.std.proofs.lemmas.List.Elements.{All-take, All-filter, recursion_from_All}
-use Rattle.std.proofs.lemmas.List.Kept.{AllPairs-filter}
-use Rattle.sha2.specs.Sha256.{sha256, digest_bytes}
 use Rattle.seq_base.specs.declared.tx.Tx.{Tx}
 use Rattle.seq_base.specs.declared.digest.Digest.{Digest}
 use Rattle.seq_base.specs.declared.block.Block.{Block}
@@ -18,39 +15,22 @@ use Rattle.seq_base.specs.Setting.{Parameters, quorum_of}
 use Rattle.seq_base.specs.Spelling.{vote_spelling, order_spelling}
 use Rattle.seq_base.specs.Tx.{FitsTx}
 use Rattle.seq_base.specs.Writable.{IsWritableBlock, IsWritableCert, IsWritableVote, IsWritableOrder, IsWritableList}
-use Rattle.block_store.specs.Store.{block_digest}
 use Rattle.chain_state.specs.Standings.{Standings, fits as fits_chain, is_used, is_waiting, order_drawn}
 use Rattle.quorum_cert.specs.Certificates.{is_good, is_first, has_quorum}
 use Rattle.chain_store.specs.Chains.{chain_state_of}
+use Rattle.headline_laws.proofs.Orders.{writable_list}
+use Rattle.journal_rules.proofs.Stores.{block_long, true_eq}
 use Rattle.node_core.specs.Rows.{Check, is_fit, is_placed, is_sealed, lists_fit}
 use Rattle.node_core.specs.State.{Known}
 use Rattle.run_verdict.specs.Parts.{Part, part, vote_part, cert_parts, order_part, block_parts}
-use Rattle.progress_laws.proofs.Chains.{digest_at, true_eq}
-use Rattle.progress_laws.proofs.StateSummary.{eq_yes, lt_yes, and_yes}
+use Rattle.progress_laws.proofs.Chains.{digest_at}
+use Rattle.progress_laws.proofs.StateSummary.{eq_yes, lt_yes}
 use Rattle.progress_laws.proofs.ProposeStep.{order_over}
 use Rattle.progress_laws.proofs.ReplicaLists.{RunFrom, rises_below, rises_from}
 use Rattle.progress_laws.proofs.VoteSteps.{voter, orderer}
 use Rattle.lawful_runs.proofs.Places.{found_at}
-use Rattle.std.proofs.lemmas.Bool.{or_right}
+use Rattle.std.proofs.lemmas.Bool.{and_from, or_right}
 use Rattle.progress_laws.proofs.Items.{each_more}
-
--- ---- lists
-
-distinct_prefix : (m : ℕ) (txs : List Tx) → AreDistinct txs → AreDistinct (take m txs)
-distinct_prefix m txs distinct i j d before inside =
-    let short : length (take m txs) ≡ min m (length txs) = length-take m txs in
-    rw (get_or-take m txs i d (omega (arith, before, inside, short)), get_or-take m txs j d (omega (arith, inside, short))) (distinct i j d before (omega (arith, inside, short)))
-
-writable_list : (most : ℕ) (wanted : Tx → Bool) (txs : List Tx) → AreDistinct txs → All FitsTx txs → IsWritableList most (take most (filter wanted txs))
-writable_list most wanted txs distinct all = record {
-  few = (let short : length (take most (filter wanted txs)) ≡ min most (length (filter wanted txs)) = length-take most (filter wanted txs) in omega (arith, short));
-  distinct = distinct_prefix most (filter wanted txs) (AllPairs-filter (λ u v. u ≢ v) wanted txs distinct);
-  each = recursion_from_All FitsTx (take most (filter wanted txs)) (All-take FitsTx most (filter wanted txs) (All-filter wanted FitsTx txs all));
-}
-
-pub block_long : (b : Block) → length (block_digest b).0 ≡ 32
-unfolding block_digest sha256 digest_bytes
-block_long b = refl
 
 pub digest_long : (bs : List Block) (k : ℕ) → k ≤ length bs → length (digest_at bs k).0 ≡ 32
 digest_long bs zero inside = refl
@@ -68,7 +48,7 @@ drawn_passes (suc m) p (t ∷ ts) = by (p t) refl (drawn_passes (suc m) p ts) (d
 
 -- an order that is drawn fits the chain over which it is drawn
 pub drawn_fits : (replica view : ℕ) (parent : Digest) (known : List Tx) (c : Standings) → fits_chain c (order_drawn replica view parent known c) ≡ true
-drawn_fits replica view parent known c = and_yes _ _ (drawn_passes 128 (λ t. not (is_used c t)) known) (drawn_passes 256 (is_waiting c) known)
+drawn_fits replica view parent known c = and_from _ _ (drawn_passes 128 (λ t. not (is_used c t)) known) (drawn_passes 256 (is_waiting c) known)
 
 -- ---- valid orders and votes
 
@@ -137,14 +117,14 @@ module _ (fits : Check) (s : Parameters) (lists : ℕ → List Tx) (WasSealed : 
   placed known b setting made (o ∷ orders) each =
       let view : o.order.view ≡ b.view = ap (λ (x : LocalOrder). x.view) each.0.drawn ∙ sym made.view in
       let parent : o.order.parent ≡ b.cert.block = ap (λ (x : LocalOrder). x.parent) each.0.drawn ∙ sym made.cert_block in
-      and_yes (is_placed known b o.order) _
-      (and_yes _ _ (eq_yes o.order.view b.view view) (and_yes _ _ (true_eq o.order.parent b.cert.block parent) (rw setting (lt_yes o.order.replica s.n each.0.below))))
+      and_from (is_placed known b o.order) _
+      (and_from _ _ (eq_yes o.order.view b.view view) (and_from _ _ (true_eq o.order.parent b.cert.block parent) (rw setting (lt_yes o.order.replica s.n each.0.below))))
       (placed known b setting made orders each.1)
 
   fit_lists : (known : Known) (b : Block) → known.setting ≡ s → known.store ≡ bs → IsMade b → (orders : List SealedOrder) → Each IsGoodOrder orders → list_all (λ sealed. lists_fit known b.cert.block sealed.order) orders ≡ true
   fit_lists known b setting store made [] each = refl
   fit_lists known b setting store made (o ∷ orders) each =
-      and_yes (lists_fit known b.cert.block o.order) _
+      and_from (lists_fit known b.cert.block o.order) _
       (rw (setting, store, made.cert_block)
       (ap (fits_chain (chain_state_of (record { setting = s; blocks = bs }) last)) each.0.drawn
       ∙ drawn_fits o.order.replica (length bs + 1) last (lists o.order.replica) (chain_state_of (record { setting = s; blocks = bs }) last)))
@@ -152,13 +132,13 @@ module _ (fits : Check) (s : Parameters) (lists : ℕ → List Tx) (WasSealed : 
 
   fit_seals : (orders : List SealedOrder) → Each IsGoodOrder orders → list_all (is_sealed fits) orders ≡ true
   fit_seals [] each = refl
-  fit_seals (o ∷ orders) each = and_yes (is_sealed fits o) _ each.0.seal_fits (fit_seals orders each.1)
+  fit_seals (o ∷ orders) each = and_from (is_sealed fits o) _ each.0.seal_fits (fit_seals orders each.1)
 
   pub fit : (b : Block) → IsMade b → (known : Known) → known.setting ≡ s → known.store ≡ bs → is_fit fits known b ≡ true
   fit b made known setting store =
-      and_yes _ _ (rw setting (eq_yes (length b.orders) (quorum_of s) made.count))
-      (and_yes _ _ (placed known b setting made b.orders made.orders)
-      (and_yes _ _ (fit_lists known b setting store made b.orders made.orders) (fit_seals b.orders made.orders)))
+      and_from _ _ (rw setting (eq_yes (length b.orders) (quorum_of s) made.count))
+      (and_from _ _ (placed known b setting made b.orders made.orders)
+      (and_from _ _ (fit_lists known b setting store made b.orders made.orders) (fit_seals b.orders made.orders)))
 
   -- ---- its parts
 
@@ -173,7 +153,7 @@ module _ (fits : Check) (s : Parameters) (lists : ℕ → List Tx) (WasSealed : 
 
   vote_seals : (votes : List CertVote) (all : List CertVote) → Each IsGoodVote votes → list_all (λ (v : CertVote). fits v.replica (vote_spelling v.replica (length bs) last) v.seal) votes ≡ true
   vote_seals [] all each = refl
-  vote_seals (v ∷ votes) all each = and_yes (fits v.replica (vote_spelling v.replica (length bs) last) v.seal) _ each.0.seal_fits (vote_seals votes all each.1)
+  vote_seals (v ∷ votes) all each = and_from (fits v.replica (vote_spelling v.replica (length bs) last) v.seal) _ each.0.seal_fits (vote_seals votes all each.1)
 
   abbrev pub cert_of : List CertVote → Cert
   cert_of votes = record { view = length bs; block = last; votes = votes }
@@ -181,9 +161,9 @@ module _ (fits : Check) (s : Parameters) (lists : ℕ → List Tx) (WasSealed : 
   pub cert_good : (votes : List CertVote) → 1 ≤ length bs → length votes ≡ quorum_of s → quorum_of s ≤ s.n → RunFrom voter 0 votes → Each IsGoodVote votes → is_good fits s (cert_of votes) ≡ true
   cert_good votes some count few run each =
       or_right (is_first (cert_of votes)) _
-      (and_yes (has_quorum s (cert_of votes)) _
-      (and_yes _ _ (lt_yes 0 (length bs) (omega (arith, some)))
-      (and_yes _ _ (let yes_count : (length votes == quorum_of s) ≡ true = grind (arith, nat_tests, count) in yes_count) (rises_below s.n 0 votes run (omega (arith, count, few)))))
+      (and_from (has_quorum s (cert_of votes)) _
+      (and_from _ _ (lt_yes 0 (length bs) (omega (arith, some)))
+      (and_from _ _ (let yes_count : (length votes == quorum_of s) ≡ true = grind (arith, nat_tests, count) in yes_count) (rises_below s.n 0 votes run (omega (arith, count, few)))))
       (vote_seals votes votes each))
 
   vote_parts_sealed : (votes : List CertVote) (c : Cert) → c.view ≡ length bs → c.block ≡ last → Each IsGoodVote votes → Each WasSealed (map (vote_part c) votes)

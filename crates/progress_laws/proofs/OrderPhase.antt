@@ -13,7 +13,6 @@ use Rattle.chain_state.specs.Standings.{fits as fits_chain}
 use Rattle.wire_view.specs.declared.fault.WireFault.{WireFault}
 use Rattle.wire_view.specs.declared.messages.MessageView.{MessageView}
 use Rattle.chain_store.specs.Chains.{chain_state_of}
-use Rattle.node_core.specs.declared.event.Event.{Event}
 use Rattle.node_core.specs.declared.event.Event.TheVariants.{Deliver}
 use Rattle.node_core.specs.declared.event.Reason.TheVariants.{Done, OldView}
 use Rattle.node_core.specs.State.{State}
@@ -23,7 +22,6 @@ use Rattle.node_core.specs.Order.{on_order}
 use Rattle.replica_seat.specs.declared.seat.Envelope.{Envelope}
 use Rattle.replay_run.specs.World.{World}
 use Rattle.run_verdict.specs.Forged.{parts_in}
-use Rattle.run_verdict.specs.Parts.{Part}
 use Rattle.progress_laws.proofs.StateSummary.{Rest, standing, state_at}
 use Rattle.progress_laws.proofs.ReplicaLists.{RunFrom, run_more}
 use Rattle.progress_laws.proofs.VoteSteps.{orderer}
@@ -46,26 +44,11 @@ module _ (course : Course) (rests : Rests course) where
   abbrev q : ℕ
   q = quorum_of s
 
-  abbrev Seal : Part → Type 0
-  Seal = Sealed course
-
-  abbrev Happens : ℕ → Event → Outcome → Type 0
-  Happens i e o = Has course i e o.reported
-
   abbrev at : ℕ → Rest → ℕ → ℕ → State
   at i rest made capacity = state_at (standing s course.plan.views i (course.lists i) [] 1 rest) made capacity
 
   one_view : 1 ≤ course.plan.views
   one_view = (let v : 4 ≤ course.plan.views = rests.views in omega (arith, v))
-
-  abbrev Goes : (ℕ → State → Type 0) → World → Type 0
-  Goes P w = Going course P w
-
-  abbrev EndsIn : ℕ → World → Type 0
-  EndsIn = Ends course
-
-  abbrev ups : ℕ → ℕ
-  ups steps = up s.n steps
 
   pub record OrdersKept (k : ℕ) (st : State) : Type 0 where
     pub opens : Opens course 1 1 0 3 L st
@@ -73,7 +56,7 @@ module _ (course : Course) (rests : Rests course) where
     pub ask_cert : opens.rest.ask_cert ≡ first_cert
     pub run : RunFrom orderer 0 opens.rest.orders
     pub many : length opens.rest.orders ≡ k
-    pub good : Each (IsGoodOrder course.fits s course.lists Seal []) opens.rest.orders
+    pub good : Each (IsGoodOrder course.fits s course.lists (Sealed course) []) opens.rest.orders
 
   pub record HasOrdered (st : State) : Type 0 where
     pub opens : Opens course 1 1 1 4 L st
@@ -88,7 +71,7 @@ module _ (course : Course) (rests : Rests course) where
 
   module _ (k : ℕ) (e : Envelope) (st : State) (c : Orders course k e) where
     order_parts : AreSealed course (Deliver e.from e.bytes)
-    order_parts = subst (λ (r : Result MessageView WireFault). Each Seal (parts_in (result_ok r))) (sym c.read) (c.good.was_sealed, tt)
+    order_parts = subst (λ (r : Result MessageView WireFault). Each (Sealed course) (parts_in (result_ok r))) (sym c.read) (c.good.was_sealed, tt)
 
     order_turn_is : (x : State) → st ≡ x → turn_of course.fits (course.gives L) st (Deliver e.from e.bytes) ≡ on_order course.fits (course.gives L) x k c.sealed
     order_turn_is x is =
@@ -130,8 +113,8 @@ module _ (course : Course) (rests : Rests course) where
       many2 : length (h.opens.rest.orders ++ c.sealed ∷ []) ≡ suc k
       many2 = (let l : length (h.opens.rest.orders ++ c.sealed ∷ []) ≡ length h.opens.rest.orders + 1 = length-append h.opens.rest.orders (c.sealed ∷ []) in let m : length h.opens.rest.orders ≡ k = h.many in omega (arith, l, m))
 
-      good2 : Each (IsGoodOrder course.fits s course.lists Seal []) (h.opens.rest.orders ++ c.sealed ∷ [])
-      good2 = each_more (IsGoodOrder course.fits s course.lists Seal []) h.opens.rest.orders (c.sealed ∷ []) h.good (c.good, tt)
+      good2 : Each (IsGoodOrder course.fits s course.lists (Sealed course) []) (h.opens.rest.orders ++ c.sealed ∷ [])
+      good2 = each_more (IsGoodOrder course.fits s course.lists (Sealed course) []) h.opens.rest.orders (c.sealed ∷ []) h.good (c.good, tt)
 
       order_is_kept : suc k < q → (o : Outcome) → o ≡ turn_of course.fits (course.gives L) st (Deliver e.from e.bytes) → OrderTurns k e o
       order_is_kept few o is =
@@ -182,7 +165,7 @@ module _ (course : Course) (rests : Rests course) where
         state = at L block_rest (h.opens.made + 1) h.opens.capacity;
       }
 
-      first_made : suc k ≡ q → IsMade course.fits s course.lists Seal [] (first_block first_cert)
+      first_made : suc k ≡ q → IsMade course.fits s course.lists (Sealed course) [] (first_block first_cert)
       first_made now = record {
         view = refl;
         cert_view = refl;
@@ -195,13 +178,13 @@ module _ (course : Course) (rests : Rests course) where
         orders = good2;
       }
 
-      order_is_last : suc k ≡ q → (o : Outcome) → o ≡ turn_of course.fits (course.gives L) st (Deliver e.from e.bytes) → Happens L (Deliver e.from e.bytes) o → OrderTurns k e o
+      order_is_last : suc k ≡ q → (o : Outcome) → o ≡ turn_of course.fits (course.gives L) st (Deliver e.from e.bytes) → Has course L (Deliver e.from e.bytes) o.reported → OrderTurns k e o
       order_is_last now o is happened =
           let same : o ≡ proposing first_cert = is ∙ order_turn_is (at L h.opens.rest h.opens.made h.opens.capacity) h.opens.is
           ∙ order_last course.fits (course.gives L) s course.plan.views L (course.lists L) [] 1 from_one one_view refl k h.opens.rest c.sealed (is_order h.opens.rest h.ask_cert) h.asked h.opens.made h.opens.capacity not_proposed h.run h.many
           (let m : length h.opens.rest.orders ≡ k = h.many in omega (arith, m, now)) (let m : h.opens.made ≤ 3 = h.opens.few_made in let x : 20 ≤ h.opens.capacity = h.opens.room in omega (arith, m, x))
           ∙ ap proposing h.ask_cert in
-          subst (λ (x : Outcome). Happens L (Deliver e.from e.bytes) x → OrderTurns k e x) (sym same)
+          subst (λ (x : Outcome). Has course L (Deliver e.from e.bytes) x.reported → OrderTurns k e x) (sym same)
           (λ happens. record {
             parts = order_parts;
             state = (
@@ -231,7 +214,7 @@ module _ (course : Course) (rests : Rests course) where
             else = λ other. absurd (other now);
           }) happened
 
-  order_turn : (k : ℕ) (e : Envelope) (st : State) (o : Outcome) → k < s.n → Orders course k e → OrderCount k st → o ≡ turn_of course.fits (course.gives L) st (Deliver e.from e.bytes) → Happens L (Deliver e.from e.bytes) o → OrderTurns k e o
+  order_turn : (k : ℕ) (e : Envelope) (st : State) (o : Outcome) → k < s.n → Orders course k e → OrderCount k st → o ≡ turn_of course.fits (course.gives L) st (Deliver e.from e.bytes) → Has course L (Deliver e.from e.bytes) o.reported → OrderTurns k e o
   order_turn k e st o inside b c is happened = by (compared k q)
     where
       by : (suc k < q) ⊎ ((suc k ≡ q) ⊎ (q ≤ k)) → OrderTurns k e o
@@ -255,8 +238,8 @@ module _ (course : Course) (rests : Rests course) where
 
   -- All orders are delivered to the leader, which proposes the first block.
   pub order_phase : (steps last : ℕ) → last ≤ 10 * s.n
-      → ((v : World) → Goes (Ready course []) v → IsProposed course [] v.queue → v.turns ≡ last → EndsIn steps v)
-      → (w : World) → Goes (Asked course 1 0 3) w → Queue (Orders course) 0 s.n w.queue → w.turns + s.n ≡ last → EndsIn (ups steps) w
+      → ((v : World) → Going course (Ready course []) v → IsProposed course [] v.queue → v.turns ≡ last → Ends course steps v)
+      → (w : World) → Going course (Asked course 1 0 3) w → Queue (Orders course) 0 s.n w.queue → w.turns + s.n ≡ last → Ends course (up s.n steps) w
   order_phase steps last few next w g queue turns =
       fan_in course L (rests.leader 1) q rests.wanted rests.few_wanted (Asked course 1 0 3) OrderCount (Orders course) (IsProposed course [])
       (λ i e b. b.to) order_turn steps last few
@@ -278,7 +261,7 @@ module _ (course : Course) (rests : Rests course) where
           both.0,
           (
             (λ same. (let a : Asked course 1 0 3 L r.state = subst (λ (x : ℕ). Asked course 1 0 3 x r.state) same both.1 in let lead = a.lead refl in (
-              (λ less. record { opens = a.opens; asked = lead.0; ask_cert = lead.1; run = subst (RunFrom orderer 0) (sym lead.2) tt; many = ap length lead.2; good = subst (Each (IsGoodOrder course.fits s course.lists Seal [])) (sym lead.2) tt }),
+              (λ less. record { opens = a.opens; asked = lead.0; ask_cert = lead.1; run = subst (RunFrom orderer 0) (sym lead.2) tt; many = ap length lead.2; good = subst (Each (IsGoodOrder course.fits s course.lists (Sealed course) [])) (sym lead.2) tt }),
               (λ above. absurd (let x : 1 ≤ q = rests.wanted in omega (arith, above, x))),
             ))),
             (λ other. both.1),

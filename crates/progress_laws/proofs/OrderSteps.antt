@@ -1,5 +1,6 @@
 -- An order is delivered to the leader that asked for it: it is stored, or the block is proposed, or it is late.
 use Rattle.std.proofs.Common.{◌≡◌, ℕ, ◌+◌, ◌<◌, ◌≤◌, List, [], ◌∷◌, ◌++◌, length, true, ap, ◌∙◌, arith, length-append}
+use Rattle.std.proofs.lemmas.Bool.{and_from, not_from_true, or_from}
 use Rattle.std.specs.List.{range_with_len}
 use Rattle.seq_base.specs.declared.tx.Tx.{Tx}
 use Rattle.seq_base.specs.declared.digest.Digest.{Digest}
@@ -11,12 +12,12 @@ use Rattle.seq_base.specs.Spelling.{order_spelling, propose_spelling, message_sp
 use Rattle.chain_state.specs.Standings.{fits as fits_chain}
 use Rattle.node_core.specs.declared.event.Reason.TheVariants.{Done, OldView}
 use Rattle.chain_store.specs.Chains.{chain_state_of}
+use Rattle.journal_rules.proofs.Stores.{true_eq}
 use Rattle.node_core.specs.State.{Known}
 use Rattle.node_core.specs.Reported.{Gives, quiet, reported, to_each}
 use Rattle.node_core.specs.Rows.{Check}
 use Rattle.node_core.specs.Order.{order_rows, order_reason, kept_order_rows, kept_order_reason, with_order, order_done, proposal, on_order}
-use Rattle.progress_laws.proofs.Chains.{true_eq}
-use Rattle.progress_laws.proofs.StateSummary.{eq_yes, eq_no, lt_yes, lt_no, le_yes, not_yes, and_yes, or_no, passes_all, Rest, standing, state_at}
+use Rattle.progress_laws.proofs.StateSummary.{eq_yes, eq_no, lt_yes, lt_no, le_yes, passes_all, Rest, standing, state_at}
 use Rattle.progress_laws.proofs.ReplicaLists.{RunFrom, goes_to_end, none_yet}
 use Rattle.progress_laws.proofs.VoteSteps.{orderer}
 
@@ -47,18 +48,18 @@ module _ (fits : Check) (gives : Gives) (s : Parameters) (views me : ℕ) (list 
 
     in_time : (rest.proposed ≡ v → ⊥) → order_reason fits (before rest) replica sealed ≡ Done
     in_time fresh = passes_all (order_rows fits (before rest) replica sealed) (
-      not_yes _ (eq_yes sealed.order.replica replica is.own),
+      not_from_true _ (eq_yes sealed.order.replica replica is.own),
       (
-        not_yes _ (and_yes _ _ (lt_yes 0 sealed.order.view (omega (arith, is.view, some))) (le_yes sealed.order.view views (omega (arith, is.view, inside)))),
+        not_from_true _ (and_from _ _ (lt_yes 0 sealed.order.view (omega (arith, is.view, some))) (le_yes sealed.order.view views (omega (arith, is.view, inside)))),
         (
-          not_yes _ (eq_yes _ me (ap (leader_of s) is.view ∙ leads)),
+          not_from_true _ (eq_yes _ me (ap (leader_of s) is.view ∙ leads)),
           (
-            or_no _ _ (not_yes _ (eq_yes sealed.order.view rest.asked (omega (arith, is.view, asked))))
-                (or_no _ _ (lt_no sealed.order.view v (omega (arith, is.view))) (eq_no sealed.order.view rest.proposed (λ same. fresh (omega (arith, same, is.view))))),
+            or_from _ _ (not_from_true _ (eq_yes sealed.order.view rest.asked (omega (arith, is.view, asked))))
+                (or_from _ _ (lt_no sealed.order.view v (omega (arith, is.view))) (eq_no sealed.order.view rest.proposed (λ same. fresh (omega (arith, same, is.view))))),
             (
-              not_yes _ is.seal_fits,
+              not_from_true _ is.seal_fits,
               (
-                not_yes _ (true_eq sealed.order.parent rest.ask_cert.block is.over),
+                not_from_true _ (true_eq sealed.order.parent rest.ask_cert.block is.over),
                 tt,
               ),
             ),
@@ -69,7 +70,7 @@ module _ (fits : Check) (gives : Gives) (s : Parameters) (views me : ℕ) (list 
 
     not_yet : RunFrom orderer 0 rest.orders → length rest.orders ≤ replica → kept_order_reason (before rest) replica sealed.order ≡ Done
     not_yet run few = passes_all (kept_order_rows (before rest) replica sealed.order) (
-      not_yes _ is.lists_fit,
+      not_from_true _ is.lists_fit,
       (
         none_yet orderer 0 replica rest.orders run (omega (arith, few)),
         tt,

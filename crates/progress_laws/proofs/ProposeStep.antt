@@ -1,5 +1,6 @@
 -- A block is proposed: the replica accepts it and votes, with its order for the next view.
 use Rattle.std.proofs.Common.{◌≡◌, ℕ, suc, ◌+◌, ◌<◌, ◌≤◌, List, [], ◌∷◌, ◌++◌, length, true, Some, None, refl, sym, ap, ◌∙◌, arith}
+use Rattle.std.proofs.lemmas.Bool.{and_from, not_from_true, or_from}
 use Rattle.seq_base.specs.declared.tx.Tx.{Tx}
 use Rattle.seq_base.specs.declared.digest.Digest.{Digest}
 use Rattle.seq_base.specs.declared.block.Block.{Block}
@@ -19,7 +20,7 @@ use Rattle.node_core.specs.Reported.{Gives, reported}
 use Rattle.node_core.specs.Rows.{Check, is_fit}
 use Rattle.node_core.specs.Propose.{propose_rows, propose_reason, proposed_rows, proposed_reason, propose_done, on_propose, voted}
 use Rattle.progress_laws.proofs.Chains.{IsChain, IsNext, digest_at, is_safe_next, is_stored_at, no_clash, goes_last, safe_stays}
-use Rattle.progress_laws.proofs.StateSummary.{eq_yes, eq_no, lt_yes, lt_no, le_yes, le_no, not_yes, and_yes, or_no, passes_all, Rest, standing, state_at, higher, saw, higher_is, sees, no_bad}
+use Rattle.progress_laws.proofs.StateSummary.{eq_yes, eq_no, lt_yes, lt_no, le_yes, le_no, passes_all, Rest, standing, state_at, higher, saw, higher_is, sees, no_bad}
 
 -- a block that each replica accepts which has stored those before it
 pub record IsDue (fits : Check) (s : Parameters) (bs : List Block) (b : Block) : Type 0 where
@@ -61,19 +62,19 @@ module _ (fits : Check) (gives : Gives) (s : Parameters) (views me : ℕ) (list 
       let view : b.view ≡ suc (length bs) = due.next.view in
       let parent : b.cert.block ≡ digest_at bs b.cert.view = due.next.parent ∙ ap (digest_at bs) (sym cert) in
       rw block (passes_all (propose_rows fits (before rest) from (record { replica = p.replica; block = b; seal = p.seal })) (
-        not_yes _ (eq_yes p.replica from own),
+        not_from_true _ (eq_yes p.replica from own),
         (
-          not_yes _ (and_yes _ _ (lt_yes 0 b.view (omega (arith, view))) (le_yes b.view views inside)),
+          not_from_true _ (and_from _ _ (lt_yes 0 b.view (omega (arith, view))) (le_yes b.view views inside)),
           (
-            not_yes _ (eq_yes from (leader_of s b.view) leads),
+            not_from_true _ (eq_yes from (leader_of s b.view) leads),
             (
-              or_no _ _ (lt_no b.view b.view (omega arith)) (le_no b.view rest.high.view (omega (arith, low))),
+              or_from _ _ (lt_no b.view b.view (omega arith)) (le_no b.view rest.high.view (omega (arith, low))),
               (
-                not_yes _ sealed,
+                not_from_true _ sealed,
                 (
                   no_bad s views me list bs chain fits (before rest) b.cert b.view refl refl (omega (arith, cert, view)) (omega (arith, cert)) parent due.good,
                   (
-                    not_yes _ (rw due.next.parent (is_stored_at bs chain (length bs) (omega arith))),
+                    not_from_true _ (rw due.next.parent (is_stored_at bs chain (length bs) (omega arith))),
                     tt,
                   ),
                 ),
@@ -87,11 +88,11 @@ module _ (fits : Check) (gives : Gives) (s : Parameters) (views me : ℕ) (list 
   is_taken rest low voted =
       let view : b.view ≡ suc (length bs) = due.next.view in
       passes_all (proposed_rows fits (before rest) b) (
-        not_yes _ (due.fit (before rest) refl refl),
+        not_from_true _ (due.fit (before rest) refl refl),
         (
           no_clash bs b due.next,
           (
-            not_yes _ (is_safe_next bs chain rest.high.view rest.voted b (omega (arith, low, view)) due.next.cert due.next.parent),
+            not_from_true _ (is_safe_next bs chain rest.high.view rest.voted b (omega (arith, low, view)) due.next.cert due.next.parent),
             (
               le_no b.view rest.voted (omega (arith, voted)),
               tt,

@@ -1,5 +1,6 @@
 -- The course of a clean run: the messages in transit in each phase, and the states of the replicas.
 use Rattle.std.proofs.Common.{◌≡◌, ◌≢◌, ℕ, zero, suc, ◌+◌, ◌*◌, ◌^◌, ◌<◌, ◌≤◌, List, [], ◌∷◌, ◌++◌, length, map, true, Some, Result, Ok, refl, sym, ap, subst, ◌∙◌, arith, length-append}
+use Rattle.std.proofs.lemmas.Map.Keys.{any_passes_from_place}
 use Rattle.std.specs.Prelude.{All, slice_get, ◌==◌}
 use Rattle.std.specs.List.{AllByRecursion as Each}
 use Rattle.std.specs.Option.{option_map, option_and_then}
@@ -22,6 +23,7 @@ use Rattle.seq_base.specs.Spelling.{vote_spelling, order_spelling, propose_spell
 use Rattle.seq_base.specs.Tx.{FitsTx}
 use Rattle.seq_base.specs.Writable.{IsWritable}
 use Rattle.block_store.specs.Store.{block_digest}
+use Rattle.journal_rules.proofs.Stores.{block_long}
 use Rattle.quorum_cert.specs.Boxes.{bare}
 use Rattle.wire_view.specs.Messages.{read_of, view_of}
 use Rattle.wire_view.specs.Views.{Proposed, Voted}
@@ -44,10 +46,10 @@ use Rattle.run_verdict.specs.Sealed.{was_sealed, is_sealed_in, has_sealed}
 use Rattle.progress_laws.proofs.Chains.{IsChain, IsNext, digest_in, digest_at}
 use Rattle.progress_laws.proofs.StateSummary.{Rest, standing, state_at, higher_is, higher}
 use Rattle.progress_laws.proofs.ProposeStep.{IsDue, order_over, after_vote, votes}
-use Rattle.progress_laws.proofs.Messages.{IsGoodOrder, IsGoodVote, IsMade, order_written, fit, parts_sealed, block_long}
+use Rattle.progress_laws.proofs.Messages.{IsGoodOrder, IsGoodVote, IsMade, order_written, fit, parts_sealed}
 use Rattle.progress_laws.proofs.Worlds.{envelope}
 use Rattle.progress_laws.proofs.Phases.{Queue, WasSealed, AreSealed, Happened, Ends, Going, OutTurn, fan_out, up, Course}
-use Rattle.progress_laws.proofs.Items.{get_last, each_more, any_at}
+use Rattle.progress_laws.proofs.Items.{get_last, each_more}
 
 module _ (course : Course) where
   abbrev pub s : Parameters
@@ -63,8 +65,8 @@ module _ (course : Course) where
   pub sealed_by : (i : ℕ) (e : Event) (reported : Turned) (k : ℕ) (statement : List ℕ) → Has i e reported → slice_get reported.sealed k ≡ Some statement → was_sealed (map journal_of course.last.replicas) i statement ≡ true
   sealed_by i e reported k statement happened found =
       ap (is_sealed_in statement) (slice_get-map journal_of course.last.replicas i ∙ ap (option_map journal_of) happened.found)
-      ∙ any_at (has_sealed statement) happened.replica.journal happened.place (record { event = e; turned = reported }) happened.entry
-      (any_at (λ (bytes : List ℕ). pointwise ◌==◌ bytes statement) reported.sealed k statement found ((bytes_decides statement statement).1 refl))
+      ∙ any_passes_from_place (has_sealed statement) happened.replica.journal happened.place (record { event = e; turned = reported }) happened.entry
+      (any_passes_from_place (λ (bytes : List ℕ). pointwise ◌==◌ bytes statement) reported.sealed k statement found ((bytes_decides statement statement).1 refl))
 
   -- a block that was delivered
   pub record Came (b : Block) : Type 0 where

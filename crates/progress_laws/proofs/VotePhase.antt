@@ -28,14 +28,14 @@ use Rattle.replay_run.specs.World.{World}
 use Rattle.run_verdict.specs.Forged.{parts_in}
 use Rattle.run_verdict.specs.Parts.{Part, part}
 use Rattle.progress_laws.proofs.Chains.{IsChain, digest_at}
-use Rattle.progress_laws.proofs.StateSummary.{and_yes, Rest, standing, state_at, higher_is}
+use Rattle.progress_laws.proofs.StateSummary.{Rest, standing, state_at, higher_is}
 use Rattle.progress_laws.proofs.ReplicaLists.{RunFrom, run_more}
 use Rattle.progress_laws.proofs.VoteSteps.{voter, orderer, AreKept, IsVote, ballot, after_form, comes_late, is_kept, is_last}
 use Rattle.progress_laws.proofs.Messages.{IsGoodOrder, IsGoodVote, IsMade, block_written, drawn_fits, cert_good, cert_written, cert_sealed}
 use Rattle.progress_laws.proofs.Worlds.{AreWithin, envelope}
 use Rattle.progress_laws.proofs.Phases.{Queue, AreSealed, Ends, Going, InTurn, HasHad, fan_in, up, compared, Course}
 use Rattle.progress_laws.proofs.Underway.{Sealed, Has, sealed_by, Ready, After, after_ready, IsProposal, IsBallot, Rests}
-use Rattle.std.proofs.lemmas.Bool.{cases_eq}
+use Rattle.std.proofs.lemmas.Bool.{and_from, cases_eq}
 use Rattle.progress_laws.proofs.Items.{each_more}
 
 -- the same bytes to each of these
@@ -161,7 +161,7 @@ module _ (course : Course) where
         order_parent = ap (λ (o : LocalOrder). o.parent) b.good_order.drawn;
         order_fits = ap (fits_chain (chain_state_of (record { setting = s; blocks = bs }) (digest_at bs (length bs)))) b.good_order.drawn
             ∙ drawn_fits b.sealed.order.replica (length bs + 1) (digest_at bs (length bs)) (course.lists b.sealed.order.replica) (chain_state_of (record { setting = s; blocks = bs }) (digest_at bs (length bs)));
-        seal_fits = and_yes (course.fits k (vote_spelling b.voted.vote.replica b.voted.vote.view b.voted.vote.block) b.voted.vote.seal)
+        seal_fits = and_from (course.fits k (vote_spelling b.voted.vote.replica b.voted.vote.view b.voted.vote.block) b.voted.vote.seal)
             (option_map_or (λ sealed. course.fits k (order_spelling sealed.order) sealed.seal) b.voted.order true) own_seal carried_seal;
       }
 

@@ -1,5 +1,6 @@
 -- A vote is delivered to the leader of the next view: it is stored, or it completes the certificate, or it is late.
 use Rattle.std.proofs.Common.{◌≡◌, ℕ, ◌+◌, ◌<◌, ◌≤◌, List, [], ◌∷◌, ◌++◌, length, true, false, Some, None, refl, sym, ap, ◌∙◌, inl, inr, ◌⊎◌, arith, length-append}
+use Rattle.std.proofs.lemmas.Bool.{and_from, not_from_true, or_from}
 use Rattle.std.specs.Prelude.{nat_eq, if◌then◌else◌}
 use Rattle.std.specs.List.{range_with_len}
 use Rattle.seq_base.specs.declared.tx.Tx.{Tx}
@@ -16,13 +17,14 @@ use Rattle.wire_view.specs.Views.{Voted}
 use Rattle.node_core.specs.declared.state.votes.Formed.{Formed}
 use Rattle.node_core.specs.declared.event.Reason.TheVariants.{Done, OldView}
 use Rattle.chain_store.specs.Chains.{chain_state_of}
+use Rattle.journal_rules.proofs.Stores.{true_eq}
 use Rattle.node_core.specs.State.{Known, Ballot}
 use Rattle.node_core.specs.Reported.{Gives, quiet, reported, to_each}
 use Rattle.node_core.specs.Rows.{Check}
 use Rattle.node_core.specs.Order.{proposal, proposes}
 use Rattle.node_core.specs.Vote.{vote_is_sealed, vote_rows, vote_reason, voted_rows, voted_reason, has_voted, ballot_of, others, formed, keeping, certified, vote_done, on_vote, next_block, proposing_next}
-use Rattle.progress_laws.proofs.Chains.{IsChain, digest_at, true_eq, view_is, is_stored_at}
-use Rattle.progress_laws.proofs.StateSummary.{eq_yes, eq_no, lt_yes, lt_no, le_yes, le_no, not_yes, and_yes, or_no, passes_all, Rest, standing, state_at, saw, sees}
+use Rattle.progress_laws.proofs.Chains.{IsChain, digest_at, view_is, is_stored_at}
+use Rattle.progress_laws.proofs.StateSummary.{eq_yes, eq_no, lt_yes, lt_no, le_yes, le_no, passes_all, Rest, standing, state_at, saw, sees}
 use Rattle.progress_laws.proofs.ReplicaLists.{RunFrom, goes_to_end, none_yet}
 
 -- the replicas of votes and of orders
@@ -90,23 +92,23 @@ module _ (fits : Check) (gives : Gives) (s : Parameters) (views me : ℕ) (list 
     -- ---- in time
     in_time : (rest : Rest) → rest.high.view < length bs → rest.asked ≤ length bs → vote_reason fits (before rest) replica v ≡ Done
     in_time rest high asked = passes_all (vote_rows fits (before rest) replica v) (
-      not_yes _ (eq_yes v.vote.replica replica is.own),
+      not_from_true _ (eq_yes v.vote.replica replica is.own),
       (
-        not_yes _ (and_yes _ _ (lt_yes 0 v.vote.view (omega (arith, is.view, some))) (le_yes v.vote.view views (omega (arith, is.view, inside)))),
+        not_from_true _ (and_from _ _ (lt_yes 0 v.vote.view (omega (arith, is.view, some))) (le_yes v.vote.view views (omega (arith, is.view, inside)))),
         (
-          not_yes _ (eq_yes _ me (ap (λ (x : ℕ). leader_of s (x + 1)) is.view ∙ leads)),
+          not_from_true _ (eq_yes _ me (ap (λ (x : ℕ). leader_of s (x + 1)) is.view ∙ leads)),
           (
-            or_no _ _ (lt_no (v.vote.view + 1) (length bs + 1) (omega (arith, is.view)))
-                (or_no _ _ (le_no v.vote.view rest.high.view (omega (arith, is.view, high))) (le_no (v.vote.view + 1) rest.asked (omega (arith, is.view, asked)))),
+            or_from _ _ (lt_no (v.vote.view + 1) (length bs + 1) (omega (arith, is.view)))
+                (or_from _ _ (le_no v.vote.view rest.high.view (omega (arith, is.view, high))) (le_no (v.vote.view + 1) rest.asked (omega (arith, is.view, asked)))),
             (
-              not_yes _ is.seal_fits,
+              not_from_true _ is.seal_fits,
               (
-                not_yes _ (rw is.block (is_stored_at bs chain (length bs) (omega arith))),
+                not_from_true _ (rw is.block (is_stored_at bs chain (length bs) (omega arith))),
                 (
-                  or_no _ _ (rw (is.block, view_is bs chain (length bs) (omega arith)) (not_yes _ (eq_yes (length bs) v.vote.view (sym is.view))))
-                      (not_yes _ (rw is.order (and_yes _ _ (lt_yes v.vote.view views (omega (arith, is.view, inside)))
-                      (and_yes _ _ (eq_yes sealed.order.replica replica is.order_own)
-                      (and_yes _ _ (eq_yes sealed.order.view (v.vote.view + 1) (omega (arith, is.order_view, is.view))) (true_eq sealed.order.parent v.vote.block (is.order_parent ∙ sym is.block))))))),
+                  or_from _ _ (rw (is.block, view_is bs chain (length bs) (omega arith)) (not_from_true _ (eq_yes (length bs) v.vote.view (sym is.view))))
+                      (not_from_true _ (rw is.order (and_from _ _ (lt_yes v.vote.view views (omega (arith, is.view, inside)))
+                      (and_from _ _ (eq_yes sealed.order.replica replica is.order_own)
+                      (and_from _ _ (eq_yes sealed.order.view (v.vote.view + 1) (omega (arith, is.order_view, is.view))) (true_eq sealed.order.parent v.vote.block (is.order_parent ∙ sym is.block))))))),
                   tt,
                 ),
               ),
@@ -119,7 +121,7 @@ module _ (fits : Check) (gives : Gives) (s : Parameters) (views me : ℕ) (list 
     not_yet : (rest : Rest) (votes : List CertVote) (orders : List SealedOrder) → AreKept rest.boxes votes orders → RunFrom voter 0 votes → length votes ≤ replica
         → voted_reason (before rest) replica v.vote v.order ≡ Done
     not_yet rest votes orders kept run few = passes_all (voted_rows (before rest) replica v.vote v.order) (
-      (rw (is.order, is.block) (not_yes _ is.order_fits)),
+      (rw (is.order, is.block) (not_from_true _ is.order_fits)),
       (
         rw (is.view, is.block) (not_voted rest votes orders replica kept run few),
         tt,

@@ -1,7 +1,7 @@
 -- What is logged of the replicas of a run stays logged, event by event.
 use Rattle.std.proofs.Common.{◌≡◌, ◌≢◌, ℕ, zero, suc, ◌+◌, ◌==◌, ◌<◌, ◌≤◌, length, List, [], ◌∷◌, ◌++◌, Bool, Option, Some, None, get_or, map, refl, ap, append_assoc, sym, subst, ◌∙◌, arith, inl, inr, if◌then◌else◌}
 use Rattle.std.specs.Prelude.{Result, Ok, Err, IfErr, All, slice_get, slice_set}
-use Rattle.std.proofs.lemmas.Option.{slice_get-get_or}
+use Rattle.std.proofs.lemmas.Option.{none-some, same_Some, slice_get-get_or}
 use Rattle.std.proofs.lemmas.Bool.{cases_Bool}
 use Rattle.std.proofs.lemmas.Bool.Decides.{nat_tests}
 use Rattle.std.proofs.lemmas.List.{length-set, map-append}
@@ -150,24 +150,18 @@ module _ {K : Type 0} (m : Meant K) (fits : Check) (plan : Plan) (l : Incarnatio
   event_count w at event None = refl
   event_count w at event (Some r) = length-set w.replicas at (after_event fits plan at r w.queue event).replica
 
-  some_is : {X : Type 0} (x y : X) → Some x ≡ Some y → x ≡ y
-  some_is x y same = cc
-
-  none_is : {X : Type 0} (x : X) → None ≡ Some x → ⊥
-  none_is x same = cc
-
   -- at the place of the event
   event_here : (w : World) (at : ℕ) (event : Event) (old new : List (Keeping K)) (k_found : Option (Keeping K)) (r_found : Option Replica)
       → slice_get old at ≡ k_found → slice_get w.replicas at ≡ r_found → HasKeptAt m event at old k_found new
       → ((k : Keeping K) (r : Replica) → slice_get old at ≡ Some k → slice_get w.replicas at ≡ Some r → IsKeptBy m fits plan l at k r)
       → (x : Keeping K) (s : Replica) → slice_get new at ≡ Some x → slice_get (event_for fits plan w at event r_found).replicas at ≡ Some s → IsKeptBy m fits plan l at x s
   event_here w at event old new None r_found k_is r_is same all x s has_x has_s =
-      absurd (none_is x (sym k_is ∙ ap (λ (ks : List (Keeping K)). slice_get ks at) (sym same) ∙ has_x))
-  event_here w at event old new (Some k) None k_is r_is h all x s has_x has_s = absurd (none_is s (sym r_is ∙ has_s))
+      absurd (none-some x (sym k_is ∙ ap (λ (ks : List (Keeping K)). slice_get ks at) (sym same) ∙ has_x))
+  event_here w at event old new (Some k) None k_is r_is h all x s has_x has_s = absurd (none-some s (sym r_is ∙ has_s))
   event_here w at event old new (Some k) (Some r) k_is r_is h all x s has_x has_s =
       let after = after_event fits plan at r w.queue event in
-      let x_is : h.0 ≡ x = some_is h.0 x (sym (set_here old at k h.0 k_is) ∙ ap (λ (ks : List (Keeping K)). slice_get ks at) (sym h.2) ∙ has_x) in
-      let s_is : after.replica ≡ s = some_is after.replica s (sym (set_here w.replicas at r after.replica r_is) ∙ has_s) in
+      let x_is : h.0 ≡ x = same_Some h.0 x (sym (set_here old at k h.0 k_is) ∙ ap (λ (ks : List (Keeping K)). slice_get ks at) (sym h.2) ∙ has_x) in
+      let s_is : after.replica ≡ s = same_Some after.replica s (sym (set_here w.replicas at r after.replica r_is) ∙ has_s) in
       subst (λ (y : Keeping K). IsKeptBy m fits plan l at y s) x_is
       (subst (λ (t : Replica). IsKeptBy m fits plan l at h.0 t) s_is
       (one_more at event k h.0 r w.queue h.1 (all k r k_is r_is)))
@@ -202,7 +196,7 @@ module _ {K : Type 0} (m : Meant K) (fits : Check) (plan : Plan) (l : Incarnatio
         count = kept.count ∙ sym (length-set w.replicas at fed);
         each = exchanged (IsKeptBy m fits plan l) keepers keepers w.replicas (slice_set w.replicas at fed) at (λ p other. refl)
             (λ p other. set_elsewhere w.replicas at p fed other)
-            (λ k s has_k has_s. subst (λ (t : Replica). IsKeptBy m fits plan l at k t) (some_is fed s (sym (set_here w.replicas at r fed r_is) ∙ has_s))
+            (λ k s has_k has_s. subst (λ (t : Replica). IsKeptBy m fits plan l at k t) (same_Some fed s (sym (set_here w.replicas at r fed r_is) ∙ has_s))
             (fed_stays at k r w.turns (kept.each at k r has_k r_is)))
             (λ p other. kept.each p);
       }

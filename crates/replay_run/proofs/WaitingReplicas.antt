@@ -1,7 +1,7 @@
 -- A run in which a replica waits is not done.
 use Rattle.std.proofs.Common.{◌≡◌, ℕ, zero, suc, ◌+◌, ◌<◌, ◌≤◌, ◌==◌, ◌||◌, ◌&&◌, Bool, true, false, not, nat_lt, refl, ap, sym, ◌∙◌, arith, inl, inr}
 use Rattle.std.specs.List.{list_all, range_with_len}
-use Rattle.std.proofs.lemmas.Bool.{cases_Bool}
+use Rattle.std.proofs.lemmas.Bool.{and_parts, cases_Bool, not-true}
 use Rattle.std.proofs.lemmas.Bool.Decides.{nat_tests}
 use Rattle.count_set.specs.Sets.{is_among}
 use Rattle.plan_text.specs.declared.plan.Plan.{Plan}
@@ -27,27 +27,19 @@ range_fails p a (suc n) at from below fails =
           rw (range_fails p (a + 1) n at above (omega arith) fails) (and_fails (p a))
     ]
 
-both_hold : (x y : Bool) → (x && y) ≡ true → (x ≡ true) × (y ≡ true)
-both_hold true y both = (refl, both)
-both_hold false y both = cc
-
-not_holds : (x : Bool) → not x ≡ true → x ≡ false
-not_holds true h = cc
-not_holds false h = refl
-
 pub waits_not_done : (plan : Plan) (w : World) (at : ℕ) → counts plan at ≡ true → holds_due_at w at ≡ false → has_all_due plan w ≡ false
 unfolding has_all_due
 waits_not_done plan w at one waits =
-    let parts = both_hold (nat_lt at plan.setting.n) (not (is_among plan.faulty at)) one in
+    let parts = and_parts (nat_lt at plan.setting.n) (not (is_among plan.faulty at)) one in
     let below : at < plan.setting.n = (let first = parts.0 in grind (arith, nat_tests)) in
-    let honest : is_among plan.faulty at ≡ false = not_holds (is_among plan.faulty at) parts.1 in
+    let honest : is_among plan.faulty at ≡ false = not-true (is_among plan.faulty at) parts.1 in
     let fails : (is_among plan.faulty at || holds_due_at w at) ≡ false = rw (honest, waits) refl in
     range_fails (λ k. is_among plan.faulty k || holds_due_at w k) 0 plan.setting.n at (omega arith) (omega arith) fails
 
 pub known_waiting : {S : Type 0} (m : Meaning S) (plan : Plan) (net value : Net S) (at : ℕ) → net ≡ value → waits_at net.due net.seats at ≡ true → counts plan at ≡ true
     → false ≡ has_all_due plan (world_of m value)
 known_waiting m plan net value at same waits one =
-    let is : holds_due_at (world_of m net) at ≡ false = not_holds (holds_due_at (world_of m net) at) (sym (waits_of_seat m net at) ∙ waits) in
+    let is : holds_due_at (world_of m net) at ≡ false = not-true (holds_due_at (world_of m net) at) (sym (waits_of_seat m net at) ∙ waits) in
     sym (waits_not_done plan (world_of m value) at one (rw same at is))
 
 pub found_waiting : {S : Type 0} (m : Meaning S) (net value : Net S) (at : ℕ) → net ≡ value → holds_due_at (world_of m value) at ≡ false → waits_at net.due net.seats at ≡ true

@@ -1,5 +1,5 @@
 -- What contracts see of a replica, and what its calls do to it.
-use Rattle.std.specs.Prelude.{◌≡◌, ℕ, List, [], ◌∷◌, ◌++◌, Bool, true, false}
+use Rattle.std.specs.Prelude.{◌≡◌, ℕ, List, [], ◌∷◌, ◌++◌, Bool, true, false, IsTrue}
 use Rattle.seq_base.specs.declared.tx.Tx.{Tx}
 use Rattle.seq_base.specs.declared.message.Outgoing.{Outgoing}
 use Rattle.chain_state.specs.Standings.{finals, is_used}
@@ -10,6 +10,7 @@ use Rattle.hss_seal.specs.declared.any.AnySealer.{AnySealer}
 use Rattle.node_core.specs.declared.event.Event.{Event}
 use Rattle.node_core.specs.declared.event.Reason.{Reason}
 use Rattle.node_core.specs.Idle.{Changes}
+use Rattle.node_core.specs.Memory.{MayRunOut, judging_takes_memory}
 use Rattle.node_core.specs.Rows.{Check, chain_at}
 use Rattle.node_core.specs.State.{Known, NodeValue}
 use Rattle.node_core.specs.Reported.{Gives, Outcome}
@@ -50,6 +51,14 @@ proposes known tx = is_used (chain_at known known.high.block) tx
 -- what its turn on an event answers, and the state that it leaves
 abbrev pub outcome_of : Seat → Event → Outcome
 outcome_of seat event = turn_of (fits_of seat) (gives_of seat) seat.node.state event
+
+-- Memory is taken to judge the event, before the node changes.
+abbrev pub IsJudgedWithMemory : Seat → Event → Type 0
+IsJudgedWithMemory seat event = IsTrue (judging_takes_memory (fits_of seat) seat.node.state.known event)
+
+-- Memory may run out in its turn on the event.
+abbrev pub CanRunOut : Seat → Event → Type 0
+CanRunOut seat event = MayRunOut (fits_of seat) seat.node.state event (outcome_of seat event)
 
 -- ---- preparing
 

@@ -19,13 +19,15 @@
 //! levels, and on `wire_write` for the statements of votes in certificates. Tests are in `tests_box`.
 #![tactic(auto)]
 
+mod acting;
 mod certified;
 mod fault;
 mod laws;
 mod learning;
 mod opening;
 mod owner;
-mod ready;
+mod prepared;
+mod preparing;
 mod receiving;
 mod recent_seals;
 mod replica;

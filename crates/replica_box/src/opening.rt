@@ -1,5 +1,5 @@
 //! Opens a replica from its secret and the bytes of its log.
-ghost use Rattle.std.specs.Prelude.{Err, ◌≡◌, ◌≢◌, ◌≤◌, ◌<◌, ◌*◌, ◌+◌, ◌↔◌, ℕ, List, Some, IsTrue, IfOk, OnOk, IfErr, length, slice_get};
+ghost use Rattle.std.specs.Prelude.{Err, ◌≡◌, ◌≢◌, ◌≤◌, ◌<◌, ◌*◌, ◌+◌, ◌↔◌, ℕ, List, Some, false, IsTrue, IfOk, OnOk, IfErr, length, slice_get};
 ghost use Rattle.hss_seal.specs.Any.{any_capacity, any_gives, any_made, any_meaning, any_publics_fit, any_replica, any_sealer};
 ghost use Rattle.node_core.specs.Runs.{opening_state, state_after};
 ghost use Rattle.durable_node.specs.Check.{header_digest};
@@ -63,15 +63,20 @@ pub(crate) fn open_node(
     publics: &[[u8; 60]],
     log: &[u8],
 ) -> Result<Opened, OpenFault>
+    // The secret is that of the replica, and the state, the running digest and the header are those that the log gives.
     ensures can { OnOk result (CanOpen role.now.setting.n role.now.views role.now.me id.now seed.now role.now.height publics.now) }
     ensures opened { IfOk result (λ o. HasOpened (any_publics_fit role.now.height publics.now) (any_gives (any_sealer id.now seed.now role.now.height role.now.me))
         (opening_state role.now.setting role.now.views role.now.me (capacity_of role.now.height)) o.header.items log.now o.used o.node.state) }
     ensures digest { IfOk result (λ o. IsDigestOf o.header.items log.now o.digest) }
     ensures header { IfOk result (λ o. o.header.items ≡ own_header role.now.setting role.now.views role.now.me role.now.height publics.now) }
     ensures narrow { OnOk result (AreNarrow role.now.setting role.now.views role.now.me (height_number role.now.height)) }
+    // By which seals it goes on: those that it accepts, and those that it gives.
     ensures fits { IfOk result (λ o. any_meaning o.checker ≡ any_publics_fit role.now.height publics.now) }
     ensures gives { IfOk result (λ o. any_gives o.node.sealer ≡ any_gives (any_sealer id.now seed.now role.now.height role.now.me)) }
+    // The used part lies within the log, and the node is not halted.
     ensures within { IfOk result (λ o. o.used ≤ length log.now) }
+    ensures running { IfOk result (λ o. o.node.halted ≡ false) }
+    // Why it is refused.
     ensures cause { IfErr result (λ fault. IsCause fault role.now.setting role.now.views role.now.me id.now seed.now role.now.height publics.now log.now) }
 {
     let sealer = own_sealer(alloc, role, id, seed, publics)?;
@@ -159,17 +164,16 @@ fn refuse_secret(
     ensures own { OnOk result (slice_get publics.now role.now.me ≡ Some (key_of_secret id.now seed.now role.now.height)) }
     ensures cause { IfErr result (λ fault. (fault ≡ OpenFault.Secret) × (slice_get publics.now role.now.me ≢ Some (key_of_secret id.now seed.now role.now.height))) }
 {
-    if is_at(publics, role.me, &public_of(sealer, role, id, seed)) {
+    if is_at(publics, role.me, &public_of(sealer)) {
         Ok(())
     } else {
         Err(OpenFault::Secret)
     }
 }
 
-/// The public key of the secret.
-fn public_of(sealer: &AnySealer, role: &Role, id: &[u8; 16], seed: &[u8; 32]) -> [u8; 60]
-    requires { sealer.now ≡ any_sealer id.now seed.now role.now.height role.now.me }
-    ensures { result ≡ key_of_secret id.now seed.now role.now.height }
+/// The public key of the secret that the sealer grew from.
+fn public_of(sealer: &AnySealer) -> [u8; 60]
+    ensures { (id seed : List ℕ) (height : Height) (me : ℕ) → sealer.now ≡ any_sealer id seed height me → result ≡ key_of_secret id seed height }
 {
     sealer.public()
 }

@@ -1,12 +1,13 @@
 //! What a replica receives, and what of it arrives when. None of these calls touches the node: a host lets what arrives
 //! happen as an event ([`Replica::prepare`]).
-ghost use Rattle.std.specs.Prelude.{◌≡◌, ◌<◌, ◌≤◌, ◌+◌, [], IfOk, OnOk, OnErr, length, max};
+ghost use Rattle.std.specs.Prelude.{◌≡◌, ◌<◌, ◌≤◌, ◌+◌, [], false, Ok, IfOk, OnOk, OnErr, length, max};
 ghost use Rattle.std.specs.Map.{keys_of};
 ghost use Rattle.intake.specs.Desk.{waiting, standing_of};
+ghost use Rattle.intake.specs.Naming.{HasNamedAll, HasNamedOf};
 ghost use Rattle.intake.specs.Offered.{HasArrived, HasNamed, unproposed};
 ghost use Rattle.intake.specs.Receiving.{answer_of, clock_heard, hear_answer, heard, received, receipts_after, restore_answer, restored, settled};
 ghost use Rattle.replica_box.specs.Seats.{proposes};
-ghost use Rattle.replica_box.specs.Shown.{shows_block};
+ghost use Rattle.replica_box.specs.Shown.{shown_lists, shows_block};
 
 use crate::Replica;
 use crate::certified::Certified;
@@ -71,7 +72,10 @@ impl Replica {
     /// them may not be received.
     pub fn accepted(&mut self, bytes: &[u8]) -> Result<bool, NoMemory>
         ensures found { IfOk result (λ found. found ≡ shows_block bytes.now) }
+        ensures none { shows_block bytes.now ≡ false → (result ≡ Ok false) × (self.new ≡ self.old) }
         ensures named { HasNamed self.old.desk self.new.desk }
+        ensures only { HasNamedOf self.old.desk.f (shown_lists bytes.now) self.old.desk self.new.desk }
+        ensures all { OnOk result (HasNamedAll self.old.desk.f (shown_lists bytes.now) self.old.desk self.new.desk) }
         ensures same { self.new ≡ record self.old { desk = self.new.desk } }
     {
         match shown_by(self.alloc, bytes)? {

@@ -4,7 +4,7 @@ use Rattle.std.specs.Prelude.{remove, slice_get}
 use Rattle.std.specs.List.{range_with_len}
 use Rattle.std.proofs.lemmas.List.{append-nil, length-map}
 use Rattle.std.proofs.lemmas.List.FromFn.{length-map-range_with_len}
-use Rattle.std.proofs.lemmas.Option.{slice_get-map}
+use Rattle.std.proofs.lemmas.Option.{same_Some, slice_get-map}
 use Rattle.fault_script.specs.Sealing.{Signer, signer}
 use Rattle.plan_text.specs.declared.plan.Plan.{Plan}
 use Rattle.replica_seat.specs.Kits.{kit_of}
@@ -12,10 +12,10 @@ use Rattle.replica_seat.specs.Opening.{fresh_replica}
 use Rattle.replica_seat.specs.Seats.{Replica, replica_of}
 use Rattle.replay_run.specs.Kept.{AreKept, IsKeptBy, Meant, header_at}
 use Rattle.replay_run.specs.Play.{start_of}
-use Rattle.replay_run.specs.World.{Net}
+use Rattle.replay_run.specs.World.{Net, World, world_of}
 use Rattle.replay_run.specs.declared.keepers.Keeping.{Keeping}
 use Rattle.restart_run.proofs.StartCounts.{once_at_first}
-use Rattle.restart_run.proofs.Places.{pushed, range_at, some_is}
+use Rattle.restart_run.proofs.Places.{pushed, range_at}
 use Rattle.restart_run.specs.Counts.{starts_before}
 use Rattle.restart_run.specs.New.{AreBegun, HadFaults, IsBegun}
 use Rattle.restart_run.specs.Started.{AreStarted, Ground, lifetimes_of}
@@ -31,7 +31,7 @@ pub start_ticks : (plan : Plan) (kit : List Signer) → (start_of plan kit).tick
 unfolding start_of
 start_ticks plan kit = refl
 
-pub start_replicas : (plan : Plan) (kit : List Signer) → (start_of plan kit).replicas ≡ map (fresh_replica plan) kit
+start_replicas : (plan : Plan) (kit : List Signer) → (start_of plan kit).replicas ≡ map (fresh_replica plan) kit
 unfolding start_of
 start_replicas plan kit = refl
 
@@ -42,7 +42,7 @@ map_at {X} f xs at y has = of_found (slice_get xs at) refl
   where
     of_found : (found : Option X) → slice_get xs at ≡ found → (x : X) × (slice_get xs at ≡ Some x) × (y ≡ f x)
     of_found None is = (let none : slice_get (map f xs) at ≡ None = rw (slice_get-map, is) refl in absurd (let e = sym none ∙ has in cc))
-    of_found (Some x) is = (let some : slice_get (map f xs) at ≡ Some (f x) = rw (slice_get-map, is) refl in (x, is, sym (some_is (f x) y (sym some ∙ has))))
+    of_found (Some x) is = (let some : slice_get (map f xs) at ≡ Some (f x) = rw (slice_get-map, is) refl in (x, is, sym (same_Some (f x) y (sym some ∙ has))))
 
 -- ---- all are kept
 
@@ -78,11 +78,12 @@ module _ {K S : Type 0} (g : Ground K S) where
       s.2 ∙ ap (fresh_replica g.plan) (i.2 ∙ ap (λ (x : ℕ). signer x capacity (g.gives x) 0) is)
 
   pub start_kept : (least : ℕ → ℕ) (keepers : List (Keeping K)) (net : Net S) → AreBegun g.keeps g.plan least keepers
-      → map (replica_of g.means) net.seats ≡ map (fresh_replica g.plan) (kit_of g.gives (capacity_of g.plan.height) g.plan.setting.n)
+      → world_of g.means net ≡ start_of g.plan (kit_of g.gives (capacity_of g.plan.height) g.plan.setting.n)
       → AreStarted g (starts_before g.plan.restarts 0) least keepers net
-  start_kept least keepers net begun same =
+  start_kept least keepers net begun started =
       let lifetimes = lifetimes_of g (starts_before g.plan.restarts 0) least in
       let kit = kit_of g.gives (capacity_of g.plan.height) g.plan.setting.n in
+      let same : map (replica_of g.means) net.seats ≡ map (fresh_replica g.plan) kit = ap (λ (w : World). w.replicas) started ∙ start_replicas g.plan kit in
       subst (AreKept g.keeps g.fits g.plan lifetimes keepers) (sym same) (record {
         count = begun.count ∙ sym (length-map kit (fresh_replica g.plan)
             ∙ length-map-range_with_len (λ (x : ℕ). signer x (capacity_of g.plan.height) (g.gives x) 0) 0 g.plan.setting.n);

@@ -3,7 +3,7 @@ use Rattle.std.proofs.Common.{◌≡◌, ◌≢◌, ℕ, length, List, Option, S
 use Rattle.std.specs.Prelude.{Result, Ok, Err, slice_get, slice_set}
 use Rattle.std.proofs.lemmas.Bool.Decides.{nat_tests}
 use Rattle.std.proofs.lemmas.List.{length-set, map-set}
-use Rattle.std.proofs.lemmas.Option.{slice_get-map}
+use Rattle.std.proofs.lemmas.Option.{same_Some, slice_get-map}
 use Rattle.node_core.specs.State.{NodeValue, State}
 use Rattle.replica_seat.specs.Seats.{Meaning, Replica, Seated, replica_of}
 use Rattle.replay_run.specs.Kept.{AreKept, GoesKept, IsKeptBy}
@@ -12,7 +12,7 @@ use Rattle.replay_run.specs.declared.keepers.Keeping.{Keeping}
 use Rattle.replay_run.specs.declared.keepers.StepFault.{StepFault}
 use Rattle.replay_run.proofs.Amongs.{set_elsewhere, set_here}
 use Rattle.replay_run.proofs.LoggedEvents.{exchanged}
-use Rattle.restart_run.proofs.Places.{set_same, some_is}
+use Rattle.restart_run.proofs.Places.{set_same}
 use Rattle.restart_run.specs.Started.{AreStarted, AreStartedOr, Ground, IsReopened, lifetimes_of, once_more}
 
 -- a seat whose node is exchanged for one that stands where it stood shows the same replica
@@ -22,7 +22,7 @@ reseated_same : {S : Type 0} (m : Meaning S) (seats : List (Seated S)) (at : ℕ
 reseated_same m seats at node r None is here number gives state = refl
 reseated_same {S} m seats at node r (Some seat) is here number gives state =
     let there : slice_get (map (replica_of m) seats) at ≡ Some (replica_of m seat) = rw (slice_get-map, is) refl in
-    let same : replica_of m seat ≡ r = some_is (replica_of m seat) r (sym there ∙ here) in
+    let same : replica_of m seat ≡ r = same_Some (replica_of m seat) r (sym there ∙ here) in
     let one : replica_of m (record seat { node = node }) ≡ replica_of m seat =
     rw (number ∙ sym (ap (λ (x : Replica). x.number) same), gives ∙ sym (ap (λ (x : Replica). x.gives) same), state ∙ sym (ap (λ (x : Replica). x.state) same)) refl in
     map-set (replica_of m) seats at (record seat { node = node })
@@ -81,7 +81,7 @@ module _ {K S : Type 0} (g : Ground K S) where
         each = exchanged (IsKeptBy g.keeps g.fits g.plan lifetimes) old new replicas replicas at
             (λ p other. put p ∙ set_elsewhere old at p re.after other) (λ p other. refl)
             (λ x s has_x has_s.
-            subst (λ (y : Keeping K). IsKeptBy g.keeps g.fits g.plan lifetimes at y s) (some_is re.after x (sym (set_here old at k re.after k_here) ∙ sym (put at) ∙ has_x))
-            (subst (IsKeptBy g.keeps g.fits g.plan lifetimes at re.after) (some_is r s (sym r_here ∙ has_s)) here))
+            subst (λ (y : Keeping K). IsKeptBy g.keeps g.fits g.plan lifetimes at y s) (same_Some re.after x (sym (set_here old at k re.after k_here) ∙ sym (put at) ∙ has_x))
+            (subst (IsKeptBy g.keeps g.fits g.plan lifetimes at re.after) (same_Some r s (sym r_here ∙ has_s)) here))
             (λ p other x s has_x has_s. other_starts starts (once_more at starts) least p x s (elsewhere at p starts other) (kept.each p x s has_x has_s));
       })

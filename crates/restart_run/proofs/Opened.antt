@@ -2,7 +2,7 @@
 use Rattle.std.proofs.Common.{◌≡◌, ℕ, ◌+◌, ◌≤◌, length, List, ◌++◌, drop, refl, ap, sym, subst, ◌∙◌, arith}
 use Rattle.std.specs.Prelude.{All}
 use Rattle.std.proofs.lemmas.Bool.Decides.{nat_tests}
-use Rattle.std.proofs.lemmas.List.{drop_at}
+use Rattle.std.proofs.lemmas.List.{drop_at, take_all}
 use Rattle.seq_base.specs.Setting.{Parameters}
 use Rattle.node_core.specs.Rows.{Check}
 use Rattle.node_core.specs.Runs.{opening_state, state_after}
@@ -17,7 +17,6 @@ use Rattle.durable_node.specs.Node.{IsOpened}
 use Rattle.plan_text.specs.declared.plan.Plan.{Plan}
 use Rattle.replica_seat.specs.Seats.{Replica}
 use Rattle.replay_run.specs.Kept.{HoldsLogOf, Incarnations, Meant, events_of, header_at, keys_of}
-use Rattle.restart_run.proofs.Places.{take_all}
 use Rattle.restart_run.specs.Started.{IsAgain, once_more, started_again}
 
 -- a log is read back whole, and in one way

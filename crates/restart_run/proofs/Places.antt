@@ -1,16 +1,7 @@
 -- Places in lists.
-use Rattle.std.proofs.Common.{◌≡◌, ℕ, zero, suc, ◌+◌, ◌<◌, ◌≤◌, ◌⊎◌, inl, inr, length, List, [], ◌∷◌, ◌++◌, Some, take, refl, ap, arith}
+use Rattle.std.proofs.Common.{◌≡◌, ℕ, zero, suc, ◌+◌, ◌⊎◌, inl, inr, length, List, [], ◌∷◌, ◌++◌, Some, refl, ap, arith}
 use Rattle.std.specs.List.{range_with_len}
-use Rattle.std.specs.Prelude.{Result, Ok, Err, IfOk, OnOk, remove, slice_get, slice_set}
-
-pub some_is : {X : Type 0} (x y : X) → Some x ≡ Some y → x ≡ y
-some_is x y same = cc
-
-pub take_all : {X : Type 0} (n : ℕ) (xs : List X) → length xs ≤ n → take n xs ≡ xs
-take_all zero [] all = refl
-take_all zero (x ∷ xs) all = absurd (omega arith)
-take_all (suc n) [] all = refl
-take_all (suc n) (x ∷ xs) all = ap (λ (t : List _). x ∷ t) (take_all n xs (omega arith))
+use Rattle.std.specs.Prelude.{Result, Ok, Err, IfOk, OnOk, slice_get, slice_set}
 
 -- what is at a place of a list with one more is there before, or is the one more
 pub pushed : {X : Type 0} (xs : List X) (x y : X) (p : ℕ) → slice_get (xs ++ x ∷ []) p ≡ Some y → (slice_get xs p ≡ Some y) ⊎ ((p ≡ length xs) × (x ≡ y))
@@ -21,14 +12,6 @@ pushed (z ∷ xs) x y (suc p) has = elim (pushed xs x y p has) [
   | inl before ↦ inl before
   | inr last ↦ inr (omega (arith, last.0), last.1)
 ]
-
-pub pushed_length : {X : Type 0} (xs : List X) (x : X) → length (xs ++ x ∷ []) ≡ length xs + 1
-pushed_length [] x = refl
-pushed_length (y ∷ xs) x = (let e = pushed_length xs x in omega (arith, e))
-
-pub removed_length : {X : Type 0} (xs : List X) → 0 < length xs → length (remove xs 0) + 1 ≡ length xs
-removed_length [] some = absurd (omega arith)
-removed_length (x ∷ xs) some = omega arith
 
 -- the numbers from a on, by their place
 pub range_at : (a n at x : ℕ) → slice_get (range_with_len a n) at ≡ Some x → x ≡ a + at

@@ -2,16 +2,14 @@
 use Rattle.std.proofs.Common.{◌≡◌, ℕ, ◌+◌, ◌==◌, ◌<◌, ◌≤◌, ◌&&◌, Bool, true, false, cond, length, List, [], ◌∷◌, take, get_or, nat_le, nat_lt, refl, ap, sym, ◌∙◌, arith, inl, inr}
 use Rattle.std.specs.Prelude.{count_by}
 use Rattle.std.proofs.Math.Seq.{take-length}
-use Rattle.std.proofs.lemmas.Bool.{cases_Bool}
+use Rattle.std.proofs.lemmas.Bool.{and_right, cases_Bool}
 use Rattle.std.proofs.lemmas.Bool.Decides.{nat_tests}
 use Rattle.std.proofs.lemmas.List.{length-take}
 use Rattle.std.proofs.lemmas.List.Sums.{count_by-le-length, count_by_more_no, count_by_more_yes, sum_by-cons}
+use Rattle.seq_base.proofs.Points.{point}
 use Rattle.plan_text.specs.declared.plan.Restart.{Restart}
 use Rattle.restart_run.specs.Counts.{is_before, is_due, is_due_of, starts_amid, starts_before}
 use Rattle.restart_run.specs.Started.{once_more}
-
-abbrev point : Bool → ℕ
-point b = cond b 1 0
 
 -- before the first one nothing is added
 pub amid_none : (restarts : List Restart) (from turns at : ℕ) → starts_before restarts from at ≡ starts_amid restarts from turns 0 at
@@ -20,10 +18,6 @@ amid_none restarts from turns at = omega arith
 and_true : (b c : Bool) → c ≡ true → (b && c) ≡ b
 and_true true c is = is
 and_true false c is = refl
-
-and_false : (b c : Bool) → c ≡ false → (b && c) ≡ false
-and_false true c is = is
-and_false false c is = refl
 
 -- one that is due starts its replica once more
 pub amid_due : (restarts : List Restart) (from turns i : ℕ) (d r : Restart) → r ≡ get_or restarts i d → i < length restarts → is_due from turns r ≡ true
@@ -45,7 +39,7 @@ amid_due restarts from turns i d r is below due at =
 pub amid_not : (restarts : List Restart) (from turns i : ℕ) (d r : Restart) → r ≡ get_or restarts i d → i < length restarts → is_due from turns r ≡ false
     → (at : ℕ) → starts_amid restarts from turns i at ≡ starts_amid restarts from turns (i + 1) at
 amid_not restarts from turns i d r is below not_due at =
-    let test : is_due_of at from turns (get_or restarts i d) ≡ false = ap (is_due_of at from turns) (sym is) ∙ and_false (r.replica == at) (is_due from turns r) not_due in
+    let test : is_due_of at from turns (get_or restarts i d) ≡ false = ap (is_due_of at from turns) (sym is) ∙ and_right (r.replica == at) (is_due from turns r) not_due in
     let more = count_by_more_no (is_due_of at from turns) restarts i d below test in
     omega (arith, more)
 
@@ -88,7 +82,7 @@ none_before [] at = refl
 none_before (r ∷ restarts) at =
     let a = sum_by-cons (λ x. cond (is_before at 0 x) 1 0) r restarts in
     let never : nat_lt r.turn 0 ≡ false = grind (arith, nat_tests) in
-    let one : point (is_before at 0 r) ≡ 0 = ap point (and_false (r.replica == at) (nat_lt r.turn 0) never) in
+    let one : point (is_before at 0 r) ≡ 0 = ap point (and_right (r.replica == at) (nat_lt r.turn 0) never) in
     omega (arith, a, one, none_before restarts at)
 
 -- at the beginning once

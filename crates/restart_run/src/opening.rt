@@ -49,11 +49,13 @@ fn begun_log<K: Keeper>(
     keeper: &mut K,
 ) -> Result<[u8; 32], StepFault>
     requires { IsNew (meant K.Keeper) K.begun keeper.old }
+    // The keeper holds the header alone, which is durable, and was opened once.
     ensures header { OnOk result (K.bytes keeper.new ≡ header_at plan.now replica) }
     ensures digest { IfOk result (λ digest. digest ≡ header_digest (header_at plan.now replica)) }
     ensures durable_size { OnOk result (K.durable_size keeper.new ≡ length (K.bytes keeper.new)) }
     ensures openings { OnOk result (K.openings keeper.new ≡ 1) }
     ensures begun { OnOk result (K.begun keeper.new ≡ true) }
+    // What has failed, if anything.
     ensures later { K.faults keeper.old ≤ K.faults keeper.new }
     ensures fault { IfErr result (IsLogFault replica (K.faults keeper.old) (K.faults keeper.new)) }
 {
@@ -81,15 +83,18 @@ pub fn reopened<S: Sealer, C: Checker, K: Keeper>(
     replica: u32,
     keeping: &mut Keeping<K>,
 ) -> Result<Node<S>, StepFault>
+    // A new sealer of the replica, with room for all views, and a keeper that may be opened once more.
     requires number { S.replica sealer ≡ replica }
     requires below { replica < plan.now.setting.n }
     requires room { 5 * plan.now.views ≤ S.capacity sealer }
     requires fresh { S.made sealer ≡ 0 }
     requires countable { K.openings keeping.old.keeper < 2 ^ 64 - 1 }
+    // The node and the log are those that the keeper's bytes lead to, and the sealer gives what it gave.
     ensures again { OpensAgain (meant K.Keeper) (C.meaning checker.now) plan.now replica (S.gives sealer) (S.capacity sealer)
         keeping.old.keeper result keeping.new.keeper keeping.new.digest }
     ensures gives { IfOk result (λ node. S.gives node.sealer ≡ S.gives sealer) }
     ensures replica { IfOk result (λ node. S.replica node.sealer ≡ replica) }
+    // Whether the replica runs, and what has failed.
     ensures on { OnOk result (keeping.new.on ≡ true) }
     ensures open { IsOpen K.begun keeping.new }
     ensures later { K.faults keeping.old.keeper ≤ K.faults keeping.new.keeper }

@@ -6,7 +6,7 @@ ghost use Rattle.seal_kit.specs.Seals.{capacity_of};
 ghost use Rattle.replica_seat.specs.Kits.{kit_of};
 ghost use Rattle.replica_seat.specs.Seats.{AreReadable, meaning};
 ghost use Rattle.replay_run.specs.Kept.{IsStopFor, meant};
-ghost use Rattle.replay_run.specs.Play.{play_of, run_for, steps_of};
+ghost use Rattle.replay_run.specs.Play.{play_of, run_for, start_of, steps_of};
 ghost use Rattle.replay_run.specs.Step.{step};
 ghost use Rattle.replay_run.specs.World.{world_of};
 ghost use Rattle.replay_run.specs.declared.keepers.Keeping.{Keeping};
@@ -25,7 +25,7 @@ use replay_run::{
 };
 use replica_seat::seats_of;
 use run_record::RunRecord;
-use seal_kit::{Checker, SealGrower};
+use seal_kit::{Checker, SealGrower, Sealer};
 use seq_base::NoMemory;
 use std::alloc::Global;
 
@@ -41,6 +41,7 @@ pub fn play_kept<M: SealGrower, C: Checker, K: Keeper>(
     checker: &C,
     keepers: Vec<K>,
 ) -> Result<(RunRecord, Vec<K>), PlayFault<K>>
+    // The sealers are those of the plan's kit, with room for all views, and there is a new keeper for each replica.
     requires rules { KeepsRules plan.now }
     requires kit { signers_of M.S.Sealer sealers.items
         ≡ kit_of (gives_for (M.gives maker.now) plan.now) (capacity_of plan.now.height) plan.now.setting.n }
@@ -48,20 +49,31 @@ pub fn play_kept<M: SealGrower, C: Checker, K: Keeper>(
     requires suffice { All (λ s. 5 * plan.now.views ≤ M.S.capacity s) sealers.items }
     requires count { length keepers.items ≡ plan.now.setting.n }
     requires new { All (IsNew (meant K.Keeper) K.begun) keepers.items }
+    // The record is that of `play`, and the keepers hold the logs of its journals.
     ensures play { IfOk result (λ done. done.0 ≡ play_of (C.meaning checker.now) plan.now
         (kit_of (gives_for (M.gives maker.now) plan.now) (capacity_of plan.now.height) plan.now.setting.n)) }
     ensures logs { IfOk result (λ done. AreLogged (meant K.Keeper) plan.now done.0.turns done.1.items done.0.journals) }
     ensures readable { IfOk result (λ done. All (λ journal. AreReadable journal.entries) done.0.journals) }
+    // Without a record a keeper has failed more often than before, or memory ran out.
     ensures fault { (least : ℕ → ℕ) → HadFaults (meant K.Keeper) least 0 keepers.items
         → IfErr result (IsPlayFault (meant K.Keeper) least) }
 {
-    let seats = seats_of(alloc, plan, sealers)?;
-    let mut network = network_of(alloc, plan, seats)?;
+    let mut network = start(alloc, plan, sealers)?;
     let mut keepers = begun_keepers(alloc, plan, keepers)?;
     match run_kept(alloc, &mut network, &mut keepers, plan, checker, maker) {
         Ok(()) => Ok((record_of(plan, network)?, released(alloc, keepers)?)),
         Err(fault) => Err(handed_back(keepers, fault)),
     }
+}
+
+/// The replicas at the start of a run.
+fn start<S: Sealer>(alloc: Global, plan: &Plan, sealers: Vec<S>) -> Result<Network<S>, NoMemory>
+    requires replicas { All (λ s. S.replica s < plan.now.setting.n) sealers.items }
+    requires room { All (λ s. 5 * plan.now.views ≤ S.capacity s) sealers.items }
+    ensures { IfOk result (λ network. world_of (meaning S.replica S.gives) network
+        ≡ start_of plan.now (signers_of S.Sealer sealers.items)) }
+{
+    network_of(alloc, plan, seats_of(alloc, plan, sealers)?)
 }
 
 /// The keepers at the start of a run.

@@ -85,11 +85,13 @@ fn reopen_at<S: Sealer, C: Checker, K: Keeper>(
     checker: &C,
     replica: u32,
 ) -> Result<Node<S>, StepFault>
+    // A new sealer of the replica, with room for all views, and a keeper that may be opened once more.
     requires number { S.replica sealer ≡ replica }
     requires below { replica < plan.now.setting.n }
     requires room { 5 * plan.now.views ≤ S.capacity sealer }
     requires fresh { S.made sealer ≡ 0 }
     requires countable { (k : Keeping K) → slice_get keepers.old replica ≡ Some k → K.openings k.keeper < 2 ^ 64 - 1 }
+    // The node and the log are those that the keeper's bytes lead to, and the sealer gives what it gave.
     ensures again { OpensAgainAt (meant K.Keeper) (C.meaning checker.now) plan.now replica (S.gives sealer) (S.capacity sealer)
         keepers.old result keepers.new }
     ensures gives { IfOk result (λ node. S.gives node.sealer ≡ S.gives sealer) }

@@ -1,5 +1,6 @@
 -- What the set and the map know once a block is received.
 use Rattle.std.proofs.Common.{◌≡◌, ◌≢◌, ◌⊎◌, ℕ, List, [], ◌∷◌, ◌++◌, Bool, true, false, cond, not, ◌||◌, Bor, Option, Some, None, option_map, refl, sym, ap, ◌∙◌, inl, inr, is_eq}
+use Rattle.std.proofs.lemmas.Bool.{false_from_ne_true}
 use Rattle.std.specs.List.{list_any, find}
 use Rattle.std.specs.Option.{option_or, is_some}
 use Rattle.std.specs.Str.{bytes_eq}
@@ -29,13 +30,9 @@ module _ (before : List Received) (r : Received) (set : BTreeSet (Bor (List ℕ)
   pub again_none : has_block before r.block ≡ true → collision_with before r ≡ None
   unfolding collision_with
   again_none has =
-      let not_zero : is_zero r.block ≡ false = other (is_zero r.block) (λ zero. knows.above r.block has ((digest_eq_decides (block_digest r.block) first_digest).0 zero)) in
+      let not_zero : is_zero r.block ≡ false = false_from_ne_true (is_zero r.block) (λ zero. knows.above r.block has ((digest_eq_decides (block_digest r.block) first_digest).0 zero)) in
       let none : find (λ x. collides x.block r.block) before ≡ None = collides_none before r.block (λ a had same. knows.apart a r.block had has same) in
       rw (not_zero, none) refl
-    where
-      other : (b : Bool) → (b ≡ true → ⊥) → b ≡ false
-      other true never = absurd (never refl)
-      other false never = refl
 
   -- one of digest zero makes one
   pub zero_some : is_zero r.block ≡ true → collision_with before r ≡ Some (record { first = place_of r; second = None })

@@ -2,13 +2,14 @@
 use Rattle.std.proofs.Common.{◌≡◌, ℕ, ◌+◌, ◌≤◌, List, [], ◌∷◌, ◌++◌, map, drop, length, true, false, Option, Some, None, refl, sym, ap, ◌∙◌, slice_get, arith}
 use Rattle.std.specs.Option.{option_or, is_some}
 use Rattle.std.proofs.Math.ListN.{drop_of_length-le}
+use Rattle.seq_base.proofs.Options.{or_none}
 use Rattle.run_record.specs.declared.record.RunRecord.{RunRecord}
 use Rattle.run_record.specs.declared.verdict.ForgedAt.{ForgedAt}
 use Rattle.node_core.specs.Rows.{Check}
 use Rattle.run_verdict.specs.Forged.{forged_part, forged_from}
 use Rattle.run_verdict.specs.Parts.{Part}
 use Rattle.quorum_cert.proofs.Dropped.{drop_found}
-use Rattle.run_verdict.proofs.Walks.{drop_none, or_none}
+use Rattle.run_verdict.proofs.Walks.{drop_none}
 
 module _ (check : Check) (run : RunRecord) (receiver entry : ℕ) where
   -- the first one, or one of the others

@@ -7,12 +7,12 @@ use Rattle.std.proofs.Math.ListN.{drop_of_length-le}
 use Rattle.std.proofs.lemmas.List.{append-nil, drop_more}
 use Rattle.seq_base.specs.declared.digest.Digest.{Digest}
 use Rattle.seq_base.specs.declared.block.Block.{Block}
+use Rattle.seq_base.proofs.Options.{or_none}
 use Rattle.node_core.specs.declared.entry.Entry.{Entry}
 use Rattle.run_record.specs.declared.verdict.CollidedAt.{CollidedAt}
 use Rattle.run_verdict.specs.Delivered.{delivered_block}
 use Rattle.run_verdict.specs.Collided.{Received, received, received_from, collision_with, collision_from}
 use Rattle.run_verdict.specs.Seen.{Knows}
-use Rattle.run_verdict.proofs.Walks.{or_none}
 
 -- what an entry brings, of those that are left
 pub received_some : (receiver k : ℕ) (entries : List Entry) (entry : Entry) (block : Block) → k < length entries → entry ≡ get_or entries k entry → delivered_block entry ≡ Some block

@@ -11,10 +11,6 @@ drop_none xs k none = elim (slice_get_cases xs k).1 [
   | inr w ↦ let beyond : length xs ≤ k + 1 = omega (arith, w.0) in (drop_of_length-le xs w.0, drop_of_length-le xs beyond)
 ]
 
-pub or_none : {X : Type 0} (o : Option X) → option_or o None ≡ o
-or_none None = refl
-or_none (Some x) = refl
-
 -- the steps of a search that goes over what is left: it stops at the first answer
 module _ {X Y : Type 0} (f : X → Option Y) (left rest : List X) (whole : Option Y) (so_far : first_of f left ≡ whole) where
   pub first_stop : (x : X) (answer : Option Y) → left ≡ x ∷ rest → answer ≡ f x → is_some answer ≡ true → answer ≡ whole

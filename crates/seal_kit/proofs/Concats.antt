@@ -4,7 +4,7 @@ use Rattle.std.specs.List.{concat}
 use Rattle.std.proofs.lemmas.List.{append-nil}
 
 -- one more of the strings
-concat_more : (xs : List (List ℕ)) (i : ℕ) → i < length xs → concat (take (suc i) xs) ≡ concat (take i xs) ++ get_or xs i []
+pub concat_more : (xs : List (List ℕ)) (i : ℕ) → i < length xs → concat (take (suc i) xs) ≡ concat (take i xs) ++ get_or xs i []
 concat_more [] i less = absurd (omega (arith, less))
 concat_more (x ∷ xs) zero less = append-nil x
 concat_more (x ∷ xs) (suc i) less = ap (λ (t : List ℕ). x ++ t) (concat_more xs i (omega (arith, less))) ∙ sym (append_assoc x (concat (take i xs)) (get_or xs i []))

@@ -1,18 +1,13 @@
 -- Sealers that are made one after another, one for each replica.
 use Rattle.std.proofs.Common.{◌≡◌, ℕ, ◌+◌, ◌<◌, List, [], ◌∷◌, ◌++◌, refl, ap, sym, ◌∙◌, arith, length-append}
-use mathlib.Core.List.{map-id}
 use Rattle.std.specs.List.{range_with_len}
 use Rattle.std.proofs.lemmas.List.{map_push}
-use Rattle.std.proofs.lemmas.List.FromFn.{map-range_with_len_more}
 use Rattle.std.proofs.lemmas.List.Elements.{All-nil, All-push}
+use Rattle.seq_base.proofs.Points.{one_number_more}
 use Rattle.seal_kit.specs.Seals.{Started}
 
 pub none_started : {S : Type 0} (replica made capacity : S → ℕ) (seals n : ℕ) → Started replica made capacity seals n 0 []
 none_started replica made capacity seals n = record { count = refl; replicas = refl; below = All-nil _; fresh = All-nil _; room = All-nil _ }
-
-one_number_more : (k : ℕ) → range_with_len 0 (k + 1) ≡ range_with_len 0 k ++ k ∷ []
-one_number_more k =
-    sym (map-id _) ∙ map-range_with_len_more (λ j. j) 0 k k (omega arith) ∙ ap (λ l. l ++ k ∷ []) (map-id _)
 
 pub one_started : {S : Type 0} (replica made capacity : S → ℕ) (seals n k : ℕ) (xs : List S) (s : S)
     → Started replica made capacity seals n k xs → replica s ≡ k → k < n → made s ≡ 0 → capacity s ≡ seals

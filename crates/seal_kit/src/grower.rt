@@ -23,6 +23,7 @@ pub trait SealGrower: SealMaker {
     ) -> Result<Kit<Self::S, Self::C>, NoMemory>
         requires shared { IsSync R.row }
         requires few { (1 ≤ n) × (n ≤ 16) }
+        // One fresh sealer for each replica, in their order, with the room and the seals of its key.
         ensures count { IfOk result (λ kit. length kit.sealers.items ≡ n) }
         ensures replicas { IfOk result (λ kit. map Self.S.replica kit.sealers.items ≡ range_with_len 0 n) }
         ensures below { IfOk result (λ kit. All (λ s. Self.S.replica s < n) kit.sealers.items) }
@@ -30,7 +31,9 @@ pub trait SealGrower: SealMaker {
         ensures room { IfOk result (λ kit. All (λ s. Self.S.capacity s ≡ capacity_of height) kit.sealers.items) }
         ensures gives { IfOk result (λ kit.
             All (λ s. Self.S.gives s ≡ Self.gives self.now seed height n (Self.S.replica s)) kit.sealers.items) }
+        // The checker accepts the seals that fit.
         ensures checker { IfOk result (λ kit. Self.C.meaning kit.checker ≡ Self.fits self.now seed height n) }
+        // Which these are: all that the sealers give, none of which is long, and none of a replica above them.
         ensures agree { (replica number : ℕ) (bytes : List ℕ) → replica < n
             → Self.fits self.now seed height n replica bytes (Self.gives self.now seed height n replica number bytes) ≡ true }
         ensures short { (replica number : ℕ) (bytes : List ℕ) → replica < n

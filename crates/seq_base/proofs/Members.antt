@@ -13,6 +13,10 @@ use Rattle.seq_base.specs.declared.tx.Tx.{Tx}
 use Rattle.seq_base.specs.Lists.{holds}
 use Rattle.seq_base.specs.Tx.{tx_cmp, tx_eq, tx_eq_decides, tx_eq_ties, tx_cmp_total}
 
+-- what a read past the end of a list gives
+pub any_tx : Tx
+any_tx = record { client = 0; number = 0; payload = 0 }
+
 -- a member has a place
 pub holds_place : (txs : List Tx) (t : Tx) → holds t txs ≡ true → (k : ℕ) × (slice_get txs k ≡ Some t)
 holds_place [] t held = absurd (cc)

@@ -60,16 +60,19 @@ impl Source for MemSource {
 
     /// Returns as many bytes as are left and fit into the buffer, unless the call is listed to fail.
     fn read(&mut self, into: &mut [u8]) -> Result<usize, Failed>
+        // What every source owes.
         ensures ok { IfOk result (λ k. Reads k into.old into.new (Some self.old.left) (Some self.new.left)) }
         ensures quiet { OnOk result (self.new.script.faults ≡ self.old.script.faults) }
         ensures err { OnErr result (self.new.left ≡ self.old.left) }
         ensures later { self.old.script.faults ≤ self.new.script.faults }
         ensures cause { OnErr result (Rose self.old.script.faults self.new.script.faults) }
 
+        // Which calls fail, how many bytes the others give, and the script after either.
         ensures fails { IsErr result ↔ FailsNext self.old.script }
         ensures count { IfOk result (λ k. k ≡ min (length self.old.left) (length into.old)) }
         ensures call { IfOk result (λ _. self.new.script ≡ after_call self.old.script) }
         ensures fault { OnErr result (self.new.script ≡ after_fault self.old.script) }
+        // What stays in the buffer.
         ensures following { IfOk result (λ k. drop k into.new ≡ drop k into.old) }
         ensures kept { OnErr result (into.new ≡ into.old) }
     {
@@ -164,14 +167,17 @@ impl Sink for MemSink {
 
     /// Takes as many bytes as the piece has, the room holds and one write may take.
     fn write(&mut self, piece: &[u8]) -> Result<usize, Failed>
+        // What every sink owes.
         ensures ok { IfOk result (λ k. Writes k piece.now (Some self.old.written) (Some self.new.written)) }
         ensures quiet { OnOk result (self.new.script.faults ≡ self.old.script.faults) }
         ensures err { OnErr result (self.new.written ≡ self.old.written) }
         ensures later { self.old.script.faults ≤ self.new.script.faults }
         ensures cause { OnErr result (Rose self.old.script.faults self.new.script.faults) }
 
+        // Which calls fail, and how many bytes the others take.
         ensures fails { IsErr result ↔ (FailsNext self.old.script ⊎ IsFullFor self.old piece.now) }
         ensures count { IfOk result (λ k. k ≡ taken_of self.old piece.now) }
+        // What stays, and the script after either.
         ensures limits { (self.new.most ≡ self.old.most) × (self.new.room ≡ self.old.room) }
         ensures call { IfOk result (λ _. self.new.script ≡ after_call self.old.script) }
         ensures fault { OnErr result (self.new.script ≡ after_fault self.old.script) }

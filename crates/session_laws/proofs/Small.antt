@@ -55,7 +55,7 @@ cut_carries = record {
 pub again_carries : CarriesFirst 2 repeated again
 again_carries = carries_if repeated again (first ∷ []) refl
 
-none_twice : AreDistinct []
+pub none_twice : AreDistinct []
 none_twice i j d less inside = absurd (omega (arith, inside))
 
 alone : (t : Tx) → AreDistinct (t ∷ [])

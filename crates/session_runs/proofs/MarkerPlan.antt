@@ -4,6 +4,7 @@ use Rattle.std.specs.Prelude.{All}
 use Rattle.std.proofs.lemmas.Bool.{cases_lt, ne_eqb}
 use Rattle.std.proofs.lemmas.List.Elements.{All-nil, All-from_recursion}
 use Rattle.std.proofs.lemmas.List.Kept.{AllPairs-cons}
+use Rattle.session_laws.proofs.Small.{none_twice}
 use Rattle.seq_base.specs.declared.tx.Tx.{Tx}
 use Rattle.seq_base.specs.Lists.{AreDistinct, holds}
 use Rattle.seq_base.specs.Setting.{IsValid}
@@ -39,9 +40,6 @@ valid = record {
   gamma = record { positive = omega arith; small = omega arith; above_half = omega arith; at_most_one = omega arith };
   resilience = record { enough = omega arith };
 }
-
-none_twice : AreDistinct []
-none_twice i j d less inside = absurd (omega (arith, inside))
 
 pub both_distinct : AreDistinct both
 both_distinct =

@@ -3,7 +3,7 @@
 ghost use Rattle.std.specs.Prelude.{◌≡◌, false, IfOk};
 
 use crate::journal::{KEYS, STOPPED, checker, entries, node};
-use durable_node::{DurableNode, MemKeeper, is_short};
+use durable_node::{DurableNode, KeptFault, MemKeeper, is_short};
 use node_core::{Entry, Node, Turned};
 use seal_kit::{Height, SealMaker, TagChecker, TagMaker, TagSealer};
 use seq_base::{BatchList, Bytes, Outgoing, Setting};
@@ -13,8 +13,11 @@ use std::test::Fail;
 /// The event within which the replica crashes: the fourth call for the view, after which it asks for local orders.
 const WITHIN: usize = 5;
 
-/// The replica, started from what its keeper holds, with a new sealer.
-pub fn started(alloc: Global, keeper: MemKeeper) -> Result<DurableNode<TagSealer, MemKeeper>, Fail>
+/// The replica, started from what its keeper holds, with a new sealer; or why it does not start.
+pub fn start_with(
+    alloc: Global,
+    keeper: MemKeeper,
+) -> Result<Result<DurableNode<TagSealer, MemKeeper>, KeptFault>, Fail>
     requires { keeper.begun ≡ false }
 {
     if keeper.openings() > 2 {
@@ -33,6 +36,16 @@ pub fn started(alloc: Global, keeper: MemKeeper) -> Result<DurableNode<TagSealer
         &kit.checker,
         keeper,
     ) {
+        Ok(kept) => Ok(Ok(kept)),
+        Err((_, fault)) => Ok(Err(fault)),
+    }
+}
+
+/// The replica, which has to start.
+pub fn started(alloc: Global, keeper: MemKeeper) -> Result<DurableNode<TagSealer, MemKeeper>, Fail>
+    requires { keeper.begun ≡ false }
+{
+    match start_with(alloc, keeper)? {
         Ok(kept) => Ok(kept),
         Err(_) => Err(Fail::new("not started")),
     }

@@ -1,12 +1,10 @@
 //! Damaged logs: with a flipped bit, torn, or without the last record.
 ghost use Rattle.std.specs.Prelude.{◌≡◌, ◌<◌, ◌≤◌, false, IfOk};
 
-use crate::journal::{KEYS, STOPPED, entries};
-use crate::stopped::{kept_after, log_after, recovers};
-use durable_node::{DurableNode, Keeper, KeptFault, MemKeeper};
+use crate::journal::entries;
+use crate::stopped::{kept_after, log_after, recovers, start_with, started};
+use durable_node::{Keeper, KeptFault, MemKeeper};
 use node_core::Entry;
-use seal_kit::{Height, SealMaker, TagMaker, TagSealer};
-use seq_base::Setting;
 use std::alloc::Global;
 use std::test::Fail;
 
@@ -22,47 +20,15 @@ pub fn holding(alloc: Global, bytes: &[u8]) -> Result<MemKeeper, Fail>
     Ok(keeper)
 }
 
-/// The replica that is started over these bytes, or why it does not start.
-fn start_over(
-    alloc: Global,
-    bytes: &[u8],
-) -> Result<Result<DurableNode<TagSealer, MemKeeper>, KeptFault>, Fail> {
-    let keeper = holding(alloc, bytes)?;
-    if keeper.openings() > 2 {
-        return Err(Fail::new("opened too often"));
-    }
-    let setting = Setting::new(5, 1, 1, 1)?;
-    let mut kit = TagMaker::new(alloc).make(7, Height::H5, 5)?;
-    let sealer = kit.sealers.remove(STOPPED);
-    match DurableNode::start(
-        alloc,
-        setting,
-        6,
-        Height::H5,
-        &KEYS,
-        sealer,
-        &kit.checker,
-        keeper,
-    ) {
-        Ok(kept) => Ok(Ok(kept)),
-        Err((_, fault)) => Ok(Err(fault)),
-    }
-}
-
 /// Why the replica does not start over these bytes; None if it does.
 pub fn fault_of(alloc: Global, bytes: &[u8]) -> Result<Option<KeptFault>, Fail> {
-    Ok(start_over(alloc, bytes)?.err())
+    Ok(start_with(alloc, holding(alloc, bytes)?)?.err())
 }
 
 /// The size of the log after the replica has started over these bytes.
 fn left_of(alloc: Global, bytes: &[u8]) -> Result<usize, Fail> {
-    match start_over(alloc, bytes)? {
-        Ok(kept) => {
-            let keeper = kept.crash();
-            Ok(keeper.bytes().len())
-        }
-        Err(_) => Err(Fail::new("not started")),
-    }
+    let keeper = started(alloc, holding(alloc, bytes)?)?.crash();
+    Ok(keeper.bytes().len())
 }
 
 /// A header of 76 bytes and the log of the first two events: the arrival of two transactions, and a tick. The checksums

@@ -3,8 +3,8 @@
 use Rattle.std.specs.Prelude.{◌≡◌, ◌≢◌, ◌⊎◌, ◌↔◌, ℕ, [], true, false, Option, None}
 use Rattle.node_core.specs.declared.event.Event.{Event}
 use Rattle.durable_node.specs.Log.{IsShort}
-use Rattle.replica_box.specs.Acting.{FirstHasRecord}
-use Rattle.replica_box.specs.Seats.{Seat}
+use Rattle.replica_box.specs.Acting.{FirstHasRecord, OfFirst}
+use Rattle.replica_box.specs.Seats.{CanRunOut, IsJudgedWithMemory, Seat}
 use Rattle.themis_c.specs.declared.TheConstants.{OK, VACANT, NO_MEMORY, LONG, UNREADY, HALTED, AGAIN}
 
 -- The call can only fail by an allocation.
@@ -25,10 +25,11 @@ IsPrepareStatus status event seat =
     ⊎ (IsOkOrNoMemory status × IsShort event × (seat.node.halted ≡ false))
 
 -- Of a turn, what each status implies. OK and AGAIN say more in clauses of their own. With NO_MEMORY the event has no record: where
--- it has one, memory that runs out halts the replica.
+-- it has one, memory that runs out halts the replica. Memory runs out only where it is taken: bytes that are no message, or that the
+-- first tests refuse, answer neither.
 abbrev pub IsActStatus : ℕ → Seat → Type 0
 IsActStatus status seat =
     ((status ≡ UNREADY) × (seat.ready ≡ []))
-    ⊎ ((status ≡ HALTED) × (seat.ready ≢ []) × (seat.node.halted ≡ false → FirstHasRecord true seat))
+    ⊎ ((status ≡ HALTED) × (seat.ready ≢ []) × (seat.node.halted ≡ false → FirstHasRecord true seat × OfFirst CanRunOut seat))
     ⊎ (((status ≡ OK) ⊎ (status ≡ AGAIN)) × (seat.ready ≢ []) × (seat.node.halted ≡ false))
-    ⊎ ((status ≡ NO_MEMORY) × (seat.ready ≢ []) × (seat.node.halted ≡ false) × FirstHasRecord false seat)
+    ⊎ ((status ≡ NO_MEMORY) × (seat.ready ≢ []) × (seat.node.halted ≡ false) × FirstHasRecord false seat × OfFirst IsJudgedWithMemory seat)

@@ -1,5 +1,5 @@
 -- How a replica is opened for C, and why it is not.
-use Rattle.std.specs.Prelude.{◌≡◌, ◌≢◌, ◌⊎◌, ◌≤◌, ◌<◌, ◌*◌, ℕ, List, [], length, take, drop, Some, slice_get}
+use Rattle.std.specs.Prelude.{◌≡◌, ◌≢◌, ◌⊎◌, ◌≤◌, ◌<◌, ◌*◌, ℕ, List, [], length, take, drop, false, Some, slice_get}
 use Rattle.intake.specs.Desk.{opening}
 use Rattle.hss_seal.specs.Any.{any_gives, any_publics_fit, any_sealer}
 use Rattle.node_core.specs.Runs.{opening_state}
@@ -35,6 +35,7 @@ pub record IsOpenedAs (s : Parameters) (views me : ℕ) (height : Height) (secre
   pub gives : gives_of seat ≡ any_gives (any_sealer (id_of secret) (seed_of secret) height me)
   pub idle : (seat.ready ≡ []) × (seat.sealed ≡ []) × (seat.sends ≡ [])
   pub desk : seat.desk ≡ opening s.n s.f me
+  pub running : seat.node.halted ≡ false
 
 -- What a status implies where the height is known: its own cause, and that none before it holds. NO_MEMORY stands in for none of
 -- the first three. The place that is written is that of the corrupt record.

@@ -1,6 +1,7 @@
 //! Turns.
-ghost use Rattle.std.specs.Prelude.{◌≡◌, ◌≢◌, ◌↔◌, Some, None, true};
+ghost use Rattle.std.specs.Prelude.{◌≡◌, ◌≢◌, ◌↔◌, Some, None, Err, true};
 ghost use Rattle.std.specs.Option.{IsSomeAnd};
+ghost use Rattle.replica_box.specs.Acting.{Acts};
 ghost use Rattle.replica_box.specs.Seats.{IsAgain, Seat};
 ghost use Rattle.themis_c.specs.Answers.{IsActStatus};
 ghost use Rattle.themis_c.specs.Calls.{IsActed};
@@ -22,6 +23,7 @@ pub extern "C" fn themis_act(alloc: Global, handle: &mut Handle, reason: &mut u3
     // What it did. Any other status leaves the replica as it was.
     ensures acted { result ≡ OK → (old : Seat) → handle.old.seat ≡ Some old → IsSomeAnd handle.new.seat (λ new. IsActed reason.new old new) }
     ensures halted { result ≡ HALTED → IsSomeAnd handle.new.seat (λ seat. seat.node.halted ≡ true) }
+    ensures stopped { result ≡ HALTED → (old : Seat) → handle.old.seat ≡ Some old → IsSomeAnd handle.new.seat (λ new. Acts (Err ActFault.Halted) old new) }
     ensures again { result ≡ AGAIN → (old : Seat) → handle.old.seat ≡ Some old → IsSomeAnd handle.new.seat (IsAgain old) }
     ensures refused { result ≢ OK → result ≢ HALTED → result ≢ AGAIN → handle.new.seat ≡ handle.old.seat }
     ensures held { (handle.new.seat ≡ None) ↔ (handle.old.seat ≡ None) }
@@ -38,6 +40,7 @@ fn act(replica: &mut Replica, reason: &mut u32) -> u32
     ensures status { IsActStatus result replica.old }
     ensures acted { result ≡ OK → IsActed reason.new replica.old replica.new }
     ensures halted { result ≡ HALTED → replica.new.node.halted ≡ true }
+    ensures stopped { result ≡ HALTED → Acts (Err ActFault.Halted) replica.old replica.new }
     ensures again { result ≡ AGAIN → IsAgain replica.old replica.new }
     ensures refused { result ≢ OK → result ≢ HALTED → result ≢ AGAIN → replica.new ≡ replica.old }
     ensures held { result ≢ VACANT }

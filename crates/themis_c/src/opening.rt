@@ -1,5 +1,5 @@
 //! Keys, opening and freeing.
-ghost use Rattle.std.specs.Prelude.{◌≡◌, ◌≢◌, ◌↔◌, [], Some, None, IfOk, IfErr, OnOk};
+ghost use Rattle.std.specs.Prelude.{◌≡◌, ◌≢◌, ◌↔◌, [], Some, None, false, IfOk, IfErr, OnOk};
 ghost use Rattle.std.specs.Option.{IsSomeAnd};
 ghost use Rattle.intake.specs.Desk.{opening};
 ghost use Rattle.hss_seal.specs.Any.{any_gives, any_publics_fit, any_sealer};
@@ -137,6 +137,7 @@ fn open_boxed(
     ensures gives { IfOk result (λ o. gives_of o.0.value ≡ any_gives (any_sealer (id_of secret.now) (seed_of secret.now) role.now.height role.now.me)) }
     ensures idle { IfOk result (λ o. (o.0.value.ready ≡ []) × (o.0.value.sealed ≡ []) × (o.0.value.sends ≡ [])) }
     ensures desk { IfOk result (λ o. o.0.value.desk ≡ opening role.now.setting.n role.now.setting.f role.now.me) }
+    ensures running { IfOk result (λ o. o.0.value.node.halted ≡ false) }
     ensures cause { IfErr result (λ fault. IsCause fault role.now.setting role.now.views role.now.me (id_of secret.now) (seed_of secret.now) role.now.height publics.now log.now) }
 {
     let (replica, used) = Replica::open(

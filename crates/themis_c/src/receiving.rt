@@ -1,10 +1,11 @@
 //! What a replica receives: from its own clients, from its peers, from blocks, and from its log.
-ghost use Rattle.std.specs.Prelude.{◌≡◌, ◌≢◌, ◌↔◌, ◌<◌, if◌then◌else◌, Some, None, IfOk, OnOk, OnErr, map};
+ghost use Rattle.std.specs.Prelude.{◌≡◌, ◌≢◌, ◌↔◌, ◌<◌, if◌then◌else◌, Some, None, false, IfOk, OnOk, OnErr, map};
 ghost use Rattle.std.specs.Option.{IsSomeAnd};
+ghost use Rattle.intake.specs.Naming.{HasNamedAll, HasNamedOf};
 ghost use Rattle.intake.specs.Offered.{HasNamed};
 ghost use Rattle.intake.specs.Receiving.{clock_heard, hear_answer, heard, restore_answer, restored, settled};
 ghost use Rattle.replica_box.specs.Seats.{Seat};
-ghost use Rattle.replica_box.specs.Shown.{shows_block};
+ghost use Rattle.replica_box.specs.Shown.{shown_lists, shows_block};
 ghost use Rattle.themis_c.specs.Answers.{IsOkOrNoMemory};
 ghost use Rattle.themis_c.specs.Calls.{tx_of};
 ghost use Rattle.themis_c.specs.Receipts.{IsPeerStatus, receipt_of, submit_answer, submitted, taken_code};
@@ -209,7 +210,10 @@ fn settle_all(alloc: Global, replica: &mut Replica, txs: &[CTx]) -> Result<(), N
 #[unsafe(no_mangle)]
 pub extern "C" fn themis_accepted(alloc: Global, handle: &mut Handle, bytes: &[u8]) -> u32
     ensures named { (old : Seat) → handle.old.seat ≡ Some old → IsSomeAnd handle.new.seat (λ new. HasNamed old.desk new.desk × (new ≡ record old { desk = new.desk })) }
+    ensures only { (old : Seat) → handle.old.seat ≡ Some old → IsSomeAnd handle.new.seat (λ new. HasNamedOf old.desk.f (shown_lists bytes.now) old.desk new.desk) }
+    ensures all { result ≢ NO_MEMORY → (old : Seat) → handle.old.seat ≡ Some old → IsSomeAnd handle.new.seat (λ new. HasNamedAll old.desk.f (shown_lists bytes.now) old.desk new.desk) }
     ensures found { handle.old.seat ≢ None → result ≢ NO_MEMORY → result ≡ (if shows_block bytes.now then OK else NONE) }
+    ensures none { handle.old.seat ≢ None → shows_block bytes.now ≡ false → (result ≡ NONE) × (handle.new.seat ≡ handle.old.seat) }
     ensures vacant { (result ≡ VACANT) ↔ (handle.old.seat ≡ None) }
 {
     let Some(mut replica) = handle.take(alloc) else {
@@ -222,7 +226,10 @@ pub extern "C" fn themis_accepted(alloc: Global, handle: &mut Handle, bytes: &[u
 
 fn accept(replica: &mut Replica, bytes: &[u8]) -> u32
     ensures named { HasNamed replica.old.desk replica.new.desk × (replica.new ≡ record replica.old { desk = replica.new.desk }) }
+    ensures only { HasNamedOf replica.old.desk.f (shown_lists bytes.now) replica.old.desk replica.new.desk }
+    ensures all { result ≢ NO_MEMORY → HasNamedAll replica.old.desk.f (shown_lists bytes.now) replica.old.desk replica.new.desk }
     ensures found { result ≢ NO_MEMORY → result ≡ (if shows_block bytes.now then OK else NONE) }
+    ensures none { shows_block bytes.now ≡ false → (result ≡ NONE) × (replica.new ≡ replica.old) }
     ensures held { result ≢ VACANT }
 {
     match replica.accepted(bytes) {

@@ -30,11 +30,15 @@ pub fn audit<K: Sink, M: CheckerMaker>(
     sink: &mut K,
     maker: &M,
 ) -> (Status, Option<RunRecord>)
+    // What is written and returned of each input, and what holds of the record that is returned.
     ensures text { AnswersAudit (seals_of M.SealMaker M.keys_fit maker.now) input.now result.1 (K.written sink.old) (K.written sink.new) result.0 }
     ensures headline { IfSome result.1 (KeepsAudit (seals_of M.SealMaker M.keys_fit maker.now) (Some input.now) (K.written sink.old) (K.written sink.new) result.0) }
+    // The status is one of the command's own, one without reading only where memory ran out, and one with a run exactly
+    // if a run is returned.
     ensures ends { ends_audit result.0 ≡ true }
     ensures read { is_unread result.0 ≡ true → result.0 ≡ WantOfMemory }
     ensures run { is_some result.1 ≡ has_run result.0 }
+    // A call that writes nothing leaves the sink, and a write fault is returned exactly where a count of faults rises.
     ensures silent { has_written result.0 ≡ false → sink.new ≡ sink.old }
     ensures write_fault { result.0 ≡ WriteFault → SinkFailed K.Sink sink.old sink.new }
     ensures rose { K.faults sink.old < K.faults sink.new → result.0 ≡ WriteFault }
@@ -98,11 +102,14 @@ fn digest_in(keys: &Keys) -> Option<[u8; 32]>
 
 /// Writes the text of an audit.
 fn report<K: Sink>(sink: &mut K, examined: &Examined) -> Status
+    // What is written, and the status of the finding.
     ensures reported { ReportedFinding examined.now.finding examined.now.text (K.written sink.old) (K.written sink.new) result }
+    // The status is one that has a run, a text and an input that was read.
     ensures ends { ends_audit result ≡ true }
     ensures run { has_run result ≡ true }
     ensures written { has_written result ≡ true }
     ensures read { is_unread result ≡ false }
+    // A write fault is returned exactly where the count of faults rises.
     ensures write_fault { result ≡ WriteFault → SinkFailed K.Sink sink.old sink.new }
     ensures rose { K.faults sink.old < K.faults sink.new → result ≡ WriteFault }
     ensures sink_later { K.faults sink.old ≤ K.faults sink.new }

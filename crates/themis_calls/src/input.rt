@@ -29,10 +29,12 @@ pub fn read_to_limit<S: Source>(
 ) -> Result<(), ReadStop>
     requires empty { vec_len input.old ≡ 0 }
     requires most { most < 4294967296 }
+    // What was read, and whether it is all that was left.
     ensures limit { vec_len input.new ≤ most + 1 }
     ensures read { HasRead (vec_len input.new) input.new.items (S.left source.old) (S.left source.new) }
     ensures whole { OnOk result (vec_len input.new ≤ most → HasEnded (S.left source.new)) }
     ensures below { OnErr result (vec_len input.new ≤ most) }
+    // Failed is returned exactly where the count of faults rises.
     ensures failed { result ≡ Err ReadStop.Failed → SourceFailed S.Source source.old source.new }
     ensures quiet { result ≢ Err ReadStop.Failed → S.faults source.new ≡ S.faults source.old }
     ensures later { S.faults source.old ≤ S.faults source.new }
@@ -60,12 +62,14 @@ pub fn read_to_limit<S: Source>(
 pub fn read_whole<S: Source>(source: &mut S, input: &mut Vec<u8>, most: usize) -> Result<(), Status>
     requires empty { vec_len input.old ≡ 0 }
     requires most { most < 4294967296 }
+    // What was taken of the source: the whole of it with Ok, and never more than one byte above the limit.
     ensures used { S.left source.new ≡ option_map (drop (vec_len input.new)) (S.left source.old) }
     ensures within { IfSome (S.left source.old) (λ left. vec_len input.new ≤ length left) }
     ensures whole { OnOk result (HasEnded (S.left source.new)) }
     ensures bytes { OnOk result (IfSome (S.left source.old) (λ left. input.new.items ≡ left)) }
     ensures limit { vec_len input.new ≤ most + 1 }
     ensures below { OnOk result (vec_len input.new ≤ most) }
+    // Which status a call has that did not get all, and that a read fault is returned exactly where the count rises.
     ensures stopped { IfErr result (λ status. is_unread status ≡ true) }
     ensures too_long { IfErr result (λ status. (status ≡ TooLong) ↔ (vec_len input.new ≡ most + 1)) }
     ensures read_fault { IfErr result (λ status. status ≡ ReadFault → SourceFailed S.Source source.old source.new) }

@@ -34,9 +34,12 @@ pub enum Form {
 
 /// The commands `order` and `line`: the proposal of the order text and its batches, in the given form.
 pub fn order<K: Sink>(alloc: Global, form: Form, input: &[u8], sink: &mut K) -> Status
+    // What is written of each input.
     ensures answers { AnswersOrder form input.now (K.written sink.old) (K.written sink.new) result }
+    // The status is one of the command's own, and one without reading only where memory ran out.
     ensures ends { ends_order result ≡ true }
     ensures read { is_unread result ≡ true → result ≡ WantOfMemory }
+    // A call that writes nothing leaves the sink, and a write fault is returned exactly where a count of faults rises.
     ensures silent { has_written result ≡ false → sink.new ≡ sink.old }
     ensures write_fault { result ≡ WriteFault → SinkFailed K.Sink sink.old sink.new }
     ensures rose { K.faults sink.old < K.faults sink.new → result ≡ WriteFault }

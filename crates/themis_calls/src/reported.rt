@@ -54,11 +54,14 @@ pub fn text_of_run(
 
 /// Writes the text of a run.
 pub fn report<K: Sink>(sink: &mut K, played: &Played) -> Status
+    // What is written, and the status of the verdict.
     ensures reported { Reported played.now.run played.now.verdict played.now.text (K.written sink.old) (K.written sink.new) result }
+    // The status is one that has a run, a text and an input that was read.
     ensures ends { ends_replay result ≡ true }
     ensures run { has_run result ≡ true }
     ensures written { has_written result ≡ true }
     ensures read { is_unread result ≡ false }
+    // A write fault is returned exactly where the count of faults rises.
     ensures write_fault { result ≡ WriteFault → SinkFailed K.Sink sink.old sink.new }
     ensures rose { K.faults sink.old < K.faults sink.new → result ≡ WriteFault }
     ensures sink_later { K.faults sink.old ≤ K.faults sink.new }

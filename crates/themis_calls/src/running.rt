@@ -38,13 +38,17 @@ pub fn run<R: Threads + Wait + Sync, K: Sink, M: CheckerMaker>(
     sink: &mut K,
     maker: &M,
 ) -> (Status, Option<RunRecord>)
+    // The fault of a bad plan, what is written and returned of a good one, and what holds of the run that is returned.
     ensures plan { AnswersPlan input.now result.0 }
     ensures text { AnswersRun InRounds (seals_of M.SealMaker M.keys_fit maker.now) input.now result.1 (K.written sink.old) (K.written sink.new) result.0 }
     ensures headline { IfSome result.1 (λ run. KeepsOrder InRounds (seals_of M.SealMaker M.keys_fit maker.now)
         (Some input.now) (K.written sink.old) (K.written sink.new) result.0 run) }
+    // The status is one of the command's own, one without reading only where memory ran out, and one with a run exactly
+    // if a run is returned.
     ensures ends { ends_replay result.0 ≡ true }
     ensures read { is_unread result.0 ≡ true → result.0 ≡ WantOfMemory }
     ensures run { is_some result.1 ≡ has_run result.0 }
+    // A call that writes nothing leaves the sink, and a write fault is returned exactly where a count of faults rises.
     ensures silent { has_written result.0 ≡ false → sink.new ≡ sink.old }
     ensures write_fault { result.0 ≡ WriteFault → SinkFailed K.Sink sink.old sink.new }
     ensures rose { K.faults sink.old < K.faults sink.new → result.0 ≡ WriteFault }

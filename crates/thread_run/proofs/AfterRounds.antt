@@ -4,7 +4,7 @@ use Rattle.std.specs.Prelude.{All, Some, None, nat_le, slice_get, slice_set}
 use Rattle.std.specs.List.{AllByRecursion, AllZip, filter, fold}
 use Rattle.std.proofs.lemmas.Bool.{cases_Bool}
 use Rattle.std.proofs.lemmas.Bool.Decides.{nat_tests}
-use Rattle.std.proofs.lemmas.List.{length-set}
+use Rattle.std.proofs.lemmas.List.{get_or_default, length-set}
 use Rattle.std.proofs.lemmas.List.Elements.{All-head, All-tail}
 use Rattle.seq_base.specs.declared.tx.Tx.{Tx}
 use Rattle.client_logs.specs.Clients.{OfClient}
@@ -25,7 +25,7 @@ use Rattle.thread_run.proofs.ArrivalTurns.{IsLate, later_left}
 use Rattle.thread_run.proofs.Heard.{taken_heard}
 use Rattle.thread_run.proofs.MannedRuns.{Remains, manned_on}
 use Rattle.thread_run.proofs.Submissions.{serve_self}
-use Rattle.thread_run.proofs.Zips.{or_other, or_set, same_or, zip_back, zip_from, zip_map, zip_there}
+use Rattle.thread_run.proofs.Zips.{or_other, or_set, zip_back, zip_from, zip_map, zip_there}
 
 -- ---- no arrival is later than any turn
 
@@ -99,7 +99,7 @@ ended_more k old mid r c so lt value ends = record {
         let same : k ≡ at = grind (arith, nat_tests) in
         let one : r ≡ get_or old k r = value ∙ so.others k r (omega arith) in
         let was : get_or old k d ≡ get_or mid k d = sym (so.others k d (omega arith)) in
-        let here : get_or mid k d ≡ r = same_or mid k d r lt ∙ sym value in
+        let here : get_or mid k d ≡ r = get_or_default mid k d r lt ∙ sym value in
         subst (λ (j : ℕ). Completes (get_or old j d) (get_or (slice_set mid k c) j d)) same
         (subst (Completes (get_or old k d)) (sym (or_set mid k c d lt)) (subst (λ (x : ClientWorker). Completes x c) (sym (was ∙ here)) ends)))
     | inr not_so ↦ (
@@ -112,7 +112,7 @@ ended_more k old mid r c so lt value ends = record {
 }
 
 pub ended_all : (k : ℕ) (old new : List ClientWorker) → length old ≤ k → SoManyEnded k old new → AllZip Completes old new
-ended_all k old new le so = zip_from Completes old new (sym so.count) (λ i d e lt. (let same = same_or new i e d (let n = so.count in omega (arith, lt, n)) in subst (Completes (get_or old i d)) (sym same) (so.ends i d (omega (arith, lt, le)))))
+ended_all k old new le so = zip_from Completes old new (sym so.count) (λ i d e lt. (let same = get_or_default new i e d (let n = so.count in omega (arith, lt, n)) in subst (Completes (get_or old i d)) (sym same) (so.ends i d (omega (arith, lt, le)))))
 
 -- ---- and then the driver
 

@@ -1,5 +1,6 @@
 -- What the driver has submitted to a log.
-use Rattle.std.proofs.Common.{◌≡◌, ℕ, ◌||◌, Bool, true, false, List, [], ◌∷◌, ◌++◌, Option, Some, None, length, take, drop, refl, ap, sym, subst, ◌∙◌, append_assoc, append-nil, arith}
+use Rattle.std.proofs.Common.{◌≡◌, ℕ, true, false, List, [], ◌∷◌, ◌++◌, Option, Some, None, length, take, drop, refl, ap, sym, subst, ◌∙◌, append_assoc, append-nil, arith}
+use Rattle.std.proofs.lemmas.Bool.{or_right}
 use Rattle.std.specs.Prelude.{Ok, Err}
 use Rattle.std.specs.Option.{is_some}
 use Rattle.std.proofs.lemmas.List.{map-append, take-append-drop}
@@ -22,10 +23,6 @@ use Rattle.thread_run.specs.declared.driver.Driver.{Driver}
 use Rattle.thread_run.specs.Going.{DriverGoes, HasGiven, HasTried, Tries}
 use Rattle.thread_run.specs.Exchange.{DriverHears, IsDriverOf}
 use Rattle.thread_run.proofs.Timeliness.{gains_on, gains_self}
-
-or_right : (a b : Bool) → b ≡ true → (a || b) ≡ true
-or_right true b e = refl
-or_right false b e = e
 
 holds_last : (list : List Tx) (t : Tx) → holds t (list ++ t ∷ []) ≡ true
 holds_last [] t = or_left (tx_eq t t) false ((tx_eq_decides t t).1 refl)

@@ -2,7 +2,7 @@
 use Rattle.std.proofs.Common.{◌≡◌, ℕ, zero, suc, ◌+◌, ◌-◌, ◌<◌, ◌≤◌, ◌&&◌, ◌||◌, Bool, true, false, List, [], ◌∷◌, ◌++◌, length, map, filter, fold, take, drop, max, nat_le, refl, ap, sym, subst, ◌∙◌, inl, inr, arith}
 use Rattle.std.specs.Prelude.{All}
 use Rattle.std.specs.List.{AllZip, flat_map, list_all, list_any, range_with_len}
-use Rattle.std.proofs.lemmas.Bool.{cases_Bool, false≢true}
+use Rattle.std.proofs.lemmas.Bool.{and_from, and_parts, and_right, cases_Bool, false≢true, or_left, or_right}
 use Rattle.std.proofs.lemmas.Bool.Decides.{nat_tests}
 use Rattle.std.proofs.lemmas.List.{map-append, take-append-drop}
 use Rattle.std.proofs.lemmas.List.Elements.{All-cons, All-head, All-nil, All-tail}
@@ -10,6 +10,7 @@ use Rattle.std.proofs.lemmas.List.Folds.{list_any-append}
 use Rattle.seq_base.specs.declared.tx.Tx.{Tx}
 use Rattle.seq_base.specs.Tx.{tx_eq, tx_eq_decides}
 use Rattle.seq_base.specs.Lists.{holds}
+use Rattle.seq_base.proofs.Points.{or_false}
 use Rattle.client_logs.specs.Clients.{numbered_tx}
 use Rattle.client_logs.specs.Merges.{IsMerge}
 use Rattle.plan_text.specs.declared.plan.Client.{Client}
@@ -38,10 +39,6 @@ or_swap true true = refl
 or_swap true false = refl
 or_swap false true = refl
 or_swap false false = refl
-
-or_false : (a : Bool) → (a || false) ≡ a
-or_false true = refl
-or_false false = refl
 
 or_both : (a b c d : Bool) → ((a || b) || (c || d)) ≡ ((a || c) || (b || d))
 or_both true b true d = refl
@@ -192,15 +189,11 @@ and_true : (b : Bool) → (b && true) ≡ b
 and_true true = refl
 and_true false = refl
 
-and_none : (b : Bool) → (b && false) ≡ false
-and_none true = refl
-and_none false = refl
-
 -- a test at a transaction that is the same
 test_same : (t x : Tx) (p : Tx → Bool) → (p x && tx_eq x t) ≡ (tx_eq x t && p t)
 test_same t x p = elim (cases_Bool (tx_eq x t)) [
   | inl so ↦ (let one : x ≡ t = (tx_eq_decides x t).0 so in rw so (and_true (p x) ∙ ap p one))
-  | inr not_so ↦ rw not_so (and_none (p x))
+  | inr not_so ↦ rw not_so (and_right (p x) false refl)
 ]
 
 test_all : (t : Tx) (p : Tx → Bool) (xs : List Tx) → list_any (λ y. p y && tx_eq y t) xs ≡ (holds t xs && p t)
@@ -210,10 +203,6 @@ test_all t p (x ∷ xs) =
 
 holds_filter : (t : Tx) (p : Tx → Bool) (xs : List Tx) → holds t (filter p xs) ≡ (holds t xs && p t)
 holds_filter t p xs = any_filter (λ y. tx_eq y t) p xs ∙ test_all t p xs
-
-and_left : (a b : Bool) → (a && b) ≡ true → a ≡ true
-and_left true b is = refl
-and_left false b is = absurd (false≢true is)
 
 pub all_held : (P : Tx → Type 0) (xs : List Tx) → All P xs → (t : Tx) → holds t xs ≡ true → P t
 all_held P [] all t is = absurd (false≢true is)
@@ -229,8 +218,9 @@ merge_same lists list m t =
     inside : (ls : List (List Tx)) → All (λ l. filter (λ tx. holds tx l) list ≡ l) ls → list_any (holds t) ls ≡ true → holds t list ≡ true
     inside [] all is = absurd (false≢true is)
     inside (l ∷ ls) all is = elim (cases_Bool (holds t l)) [
-      | inl so ↦ and_left (holds t list) (holds t l)
-          (sym (holds_filter t (λ tx. holds tx l) list) ∙ ap (holds t) (All-head (λ l. filter (λ tx. holds tx l) list ≡ l) l ls all) ∙ so)
+      | inl so ↦
+          (and_parts (holds t list) (holds t l)
+          (sym (holds_filter t (λ tx. holds tx l) list) ∙ ap (holds t) (All-head (λ l. filter (λ tx. holds tx l) list ≡ l) l ls all) ∙ so)).0
       | inr not_so ↦ inside ls (All-tail (λ l. filter (λ tx. holds tx l) list ≡ l) l ls all) (rw not_so at is)
     ]
 
@@ -271,27 +261,11 @@ all_pass_same p xs ys same all = each ys (λ t is. passes xs all t (same t ∙ i
     passes : (xs : List Tx) → list_all p xs ≡ true → (t : Tx) → holds t xs ≡ true → p t ≡ true
     passes [] all t is = absurd (false≢true is)
     passes (x ∷ xs) all t is = elim (cases_Bool (tx_eq x t)) [
-      | inl so ↦ subst (λ (y : Tx). p y ≡ true) ((tx_eq_decides x t).0 so) (and_left (p x) (list_all p xs) all)
-      | inr not_so ↦ passes xs (and_right (p x) (list_all p xs) all) t (rw not_so at is)
+      | inl so ↦ subst (λ (y : Tx). p y ≡ true) ((tx_eq_decides x t).0 so) (and_parts (p x) (list_all p xs) all).0
+      | inr not_so ↦ passes xs (and_parts (p x) (list_all p xs) all).1 t (rw not_so at is)
     ]
-      where
-        and_right : (a b : Bool) → (a && b) ≡ true → b ≡ true
-        and_right true b is = is
-        and_right false b is = absurd (false≢true is)
 
     each : (ys : List Tx) → ((t : Tx) → holds t ys ≡ true → p t ≡ true) → list_all p ys ≡ true
     each [] inside = refl
     each (y ∷ ys) inside =
-        both (p y) (list_all p ys) (inside y (or_left (tx_eq y y) (holds y ys) ((tx_eq_decides y y).1 refl))) (each ys (λ t is. inside t (or_right (tx_eq y t) (holds t ys) is)))
-      where
-        both : (a b : Bool) → a ≡ true → b ≡ true → (a && b) ≡ true
-        both true b x y = y
-        both false b x y = x
-
-        or_left : (a b : Bool) → a ≡ true → (a || b) ≡ true
-        or_left true b x = refl
-        or_left false b x = absurd (false≢true x)
-
-        or_right : (a b : Bool) → b ≡ true → (a || b) ≡ true
-        or_right true b x = refl
-        or_right false b x = x
+        and_from (p y) (list_all p ys) (inside y (or_left (tx_eq y y) (holds y ys) ((tx_eq_decides y y).1 refl))) (each ys (λ t is. inside t (or_right (tx_eq y t) (holds t ys) is)))

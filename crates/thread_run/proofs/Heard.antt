@@ -1,6 +1,7 @@
 -- What the workers are informed of before a round, and what a run preserves meanwhile.
-use Rattle.std.proofs.Common.{◌≡◌, ℕ, zero, suc, ◌+◌, ◌*◌, ◌<◌, ◌≤◌, ◌&&◌, Bool, List, [], ◌∷◌, ◌++◌, get_or, take, drop, map, min, refl, ap, sym, subst, ◌∙◌, arith}
-use Rattle.std.specs.Prelude.{All, Some, None, true, false, nat_le, slice_get}
+use Rattle.std.proofs.Common.{◌≡◌, ℕ, zero, suc, ◌+◌, ◌*◌, ◌<◌, ◌≤◌, List, [], ◌∷◌, ◌++◌, get_or, take, drop, map, min, refl, ap, sym, subst, ◌∙◌, arith}
+use Rattle.std.proofs.lemmas.Bool.{and_parts}
+use Rattle.std.specs.Prelude.{All, Some, None, true, nat_le, slice_get}
 use Rattle.std.specs.List.{AllByRecursion, AllZip, list_all, range_with_len}
 use Rattle.std.proofs.lemmas.Option.{get_or_from_slice_get, slice_get-get_or}
 use Rattle.std.proofs.lemmas.List.Elements.{All-from_recursion}
@@ -94,10 +95,6 @@ module _ {S : Type 0} where
 
 -- ---- what is known of the arrivals
 
-and_both : (a b : Bool) → (a && b) ≡ true → (a ≡ true) × (b ≡ true)
-and_both true b e = (refl, e)
-and_both false b e = absurd (cc (e))
-
 abbrev KnownBy : ℕ → List Tx → TimedTx → Type 0
 KnownBy turns seen t = nat_le t.turn turns ≡ true → holds t.tx seen ≡ true
 
@@ -105,7 +102,7 @@ all_known : (turns : ℕ) (seen : List Tx) (given left : List TimedTx) → Holds
 all_known turns seen [] [] held late = tt
 all_known turns seen [] (t ∷ left) held late = (λ so. absurd (let no = late.0 in cc (so, no)), all_known turns seen [] left held late.1)
 all_known turns seen (t ∷ given) left held late =
-    let both = and_both (holds t.tx seen) (list_all (λ x. holds x seen) (txs_of given)) held in (λ so. both.0, all_known turns seen given left both.1 late)
+    let both = and_parts (holds t.tx seen) (list_all (λ x. holds x seen) (txs_of given)) held in (λ so. both.0, all_known turns seen given left both.1 late)
 
 numbered_first : (f : ℕ → Tx) (a m n : ℕ) → take m (map f (range_with_len a n)) ≡ map f (range_with_len a (min n m))
 numbered_first f a zero zero = refl
@@ -117,7 +114,7 @@ numbered_first f a (suc m) (suc n) =
 
 all_hold : (seen : List Tx) (txs : List Tx) → HoldsEach seen txs → AllByRecursion (λ t. holds t seen ≡ true) txs
 all_hold seen [] h = tt
-all_hold seen (t ∷ txs) h = (let both = and_both (holds t seen) (list_all (λ x. holds x seen) txs) h in (both.0, all_hold seen txs both.1))
+all_hold seen (t ∷ txs) h = (let both = and_parts (holds t seen) (list_all (λ x. holds x seen) txs) h in (both.0, all_hold seen txs both.1))
 
 module _ {S : Type 0} (fits : Check) (plan : Plan) (m : Meaning S) (gives : ℕ → Gives) (capacity rounds ticks turns : ℕ) (old new : Run S)
     (le : turns ≤ old.turns) (g : IsGoing fits plan m gives capacity rounds ticks old) (h : HasHeard plan turns old new) (taken : AllTaken new.drivers.items new.clients.items) where

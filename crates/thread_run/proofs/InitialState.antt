@@ -29,7 +29,7 @@ use Rattle.thread_run.specs.Going.{HasGiven, IsClientOf, IsGoing, IsManned}
 use Rattle.thread_run.specs.Signers.{fresh_signers}
 use Rattle.thread_run.specs.Standing.{IsNew, journal_of, journals_at}
 use Rattle.thread_run.specs.Starting.{IsDealt, IsNewClient, drivers_from, pass_with, worker_with, workers_from}
-use Rattle.thread_run.specs.Steps.{IsCounted, turns_by}
+use Rattle.thread_run.specs.Steps.{Begins, IsCounted, turns_by}
 use Rattle.thread_run.specs.Exchange.{IsDriverOf}
 use Rattle.thread_run.specs.Workers.{Did, IsOf, Ready, Working}
 use Rattle.thread_run.proofs.WorkDone.{did_nothing}
@@ -161,7 +161,7 @@ module _ {S A : Type 0} (plan : Plan) (run : Run S) (m : Meaning S) (shape : A �
       each [] = refl
       each (s ∷ ss) = ap (λ (l : List (List Tx)). txs_of (timed_for plan (shape s).replica) ∷ l) (each ss)
 
-  pub manned : IsManned plan run
+  manned : IsManned plan run
   manned = record {
     logs = logs_count;
     boxes = boxes_count;
@@ -181,7 +181,7 @@ module _ {S A : Type 0} (plan : Plan) (run : Run S) (m : Meaning S) (shape : A �
     due = due_is ∙ ap (due_of n plan.faulty) feeds_are;
   }
 
-  pub counted : run.ticks ≡ 0 → IsCounted plan run
+  counted : run.ticks ≡ 0 → IsCounted plan run
   counted no_ticks = record {
     turns = (
         let all : sum_by turns_by run.workers.items ≡ sum_by turns_by ws = ap (sum_by turns_by) workers_are in
@@ -227,7 +227,7 @@ module _ {S A : Type 0} (plan : Plan) (run : Run S) (m : Meaning S) (shape : A �
       known = refl;
     }
 
-    pub going : IsGoing fits plan m gives capacity 0 0 run
+    going : IsGoing fits plan m gives capacity 0 0 run
     going = record {
       manned = manned;
       stand = λ at lt. (
@@ -259,3 +259,6 @@ module _ {S A : Type 0} (plan : Plan) (run : Run S) (m : Meaning S) (shape : A �
         fresh at d is =
             let none : 0 + at ≡ at = omega arith in
             subst (λ (i : ℕ). (d.pass.own ≡ []) × (d.feed.left ≡ arrivals_for plan.arrivals i)) none (fresh_at plan.arrivals 0 logs at d (ap (λ (l : List Driver). slice_get l at) (sym drivers_are) ∙ is))
+
+  pub begins : run.ticks ≡ 0 → Begins plan m (map shape sealers) run
+  begins no_ticks = record { manned = manned; counted = counted no_ticks; ticks = no_ticks; going = going }

@@ -1,7 +1,7 @@
 -- Envelopes are put into mailboxes.
 use Rattle.std.proofs.Common.{◌≡◌, ◌<◌, ◌≤◌, List, [], ◌∷◌, ◌++◌, length, get_or, refl, ap}
+use Rattle.std.proofs.lemmas.Grind.{fold-append}
 use Rattle.std.specs.Prelude.{slice_set}
-use Rattle.std.specs.List.{fold}
 use Rattle.std.proofs.lemmas.Option.{slice_get-get_or, slice_get_past}
 use Rattle.mailbox.specs.Boxes.{Sender, sent_more}
 use Rattle.replica_seat.specs.declared.seat.Envelope.{Envelope}
@@ -12,10 +12,6 @@ posted_past sends e past = ap (posted_for sends e) (slice_get_past sends e.to pa
 
 pub posted_at : (sends : List Sender) (e : Envelope) (d : Sender) → e.to < length sends → posted_one sends e ≡ slice_set sends e.to (sent_more (get_or sends e.to d) e.bytes)
 posted_at sends e d below = ap (posted_for sends e) (slice_get-get_or sends e.to d below)
-
-fold-append : {A B : Type 0} (f : A → B → A) (a : A) (xs ys : List B) → fold f a (xs ++ ys) ≡ fold f (fold f a xs) ys
-fold-append f a [] ys = refl
-fold-append f a (x ∷ xs) ys = fold-append f (f a x) xs ys
 
 pub posted-append : (sends : List Sender) (xs ys : List Envelope) → posted sends (xs ++ ys) ≡ posted (posted sends xs) ys
 unfolding posted

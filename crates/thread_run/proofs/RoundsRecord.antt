@@ -5,7 +5,7 @@ use Rattle.std.specs.Option.{option_map_or}
 use Rattle.std.proofs.Math.Path.{fun_ext}
 use Rattle.std.proofs.lemmas.Bool.{cases_Bool}
 use Rattle.std.proofs.lemmas.Bool.Decides.{nat_tests}
-use Rattle.std.proofs.lemmas.List.{length-map}
+use Rattle.std.proofs.lemmas.List.{get_or_default, length-map}
 use Rattle.std.proofs.lemmas.List.Elements.{All-cons, All-head, All-nil, All-tail}
 use Rattle.std.proofs.lemmas.List.FromFn.{get_or-map-range_with_len, length-range_with_len}
 use Rattle.std.proofs.lemmas.Option.{get_or_from_slice_get, slice_get_past}
@@ -159,14 +159,9 @@ module _ {S : Type 0} (fits : Check) (plan : Plan) (m : Meaning S) (gives : ℕ 
           let lists = count in
           let below : i < plan.setting.n = omega (arith, lt, lists, arrivals) in
           let first : get_or (map (λ at. txs_of (timed_for plan at)) (everyone plan)) i d ≡ txs_of (timed_for plan i) = get_or-map-range_with_len (λ at. txs_of (timed_for plan at)) 0 plan.setting.n i i d below (omega arith) in
-          let same : get_or run.arrivals i [] ≡ get_or run.arrivals i e = get_or_same run.arrivals i [] e (omega (arith, below, arrivals)) in
+          let same : get_or run.arrivals i [] ≡ get_or run.arrivals i e = get_or_default run.arrivals i [] e (omega (arith, below, arrivals)) in
           subst (λ (l : List Tx). SameTxs l (get_or run.arrivals i e)) (sym first)
           (subst (SameTxs (txs_of (timed_for plan i))) same (λ t. feed_same plan i t ∙ merge_same (submitted_to plan i) (get_or run.arrivals i []) (shows.arrivals i below) t))
-        where
-          get_or_same : (xs : List (List Tx)) (i : ℕ) (d e : List Tx) → i < length xs → get_or xs i d ≡ get_or xs i e
-          get_or_same [] i d e lt = absurd (omega (arith, lt))
-          get_or_same (x ∷ xs) zero d e lt = refl
-          get_or_same (x ∷ xs) (suc i) d e lt = get_or_same xs i d e (omega (arith, lt))
 
   done : HoldAll plan old → IsDone plan run
   unfolding holds_due

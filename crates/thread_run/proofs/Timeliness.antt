@@ -1,12 +1,12 @@
 -- No node knows an arrival early: what the driver gives comes after all that the worker had seen, and it gives no
 -- arrival before its turn.
-use Rattle.std.proofs.Common.{◌≡◌, ◌⊎◌, ℕ, zero, suc, ◌+◌, ◌<◌, ◌≤◌, ◌==◌, true, List, [], ◌∷◌, ◌++◌, length, get_or, take, drop, nat_lt, refl, ap, sym, subst, ◌∙◌, inl, inr, append_assoc, length-append, arith}
+use Rattle.std.proofs.Common.{◌≡◌, ◌⊎◌, ℕ, zero, suc, ◌+◌, ◌≤◌, ◌==◌, true, List, [], ◌∷◌, ◌++◌, length, get_or, take, drop, refl, ap, sym, subst, ◌∙◌, inl, inr, append_assoc, length-append, arith}
 use Rattle.std.specs.Prelude.{All, Some, None, Result, Ok, Err, nat_le, slice_get}
 use Rattle.std.specs.List.{AllByRecursion, prefix_len}
 use Rattle.std.specs.Option.{option_map}
-use Rattle.std.proofs.lemmas.Bool.{cases_Bool}
+use Rattle.std.proofs.lemmas.Bool.{cases_Bool, cases_order}
 use Rattle.std.proofs.lemmas.Bool.Decides.{nat_tests}
-use Rattle.std.proofs.lemmas.List.{take-append-drop}
+use Rattle.std.proofs.lemmas.List.{append_cancel_right, take-append-drop}
 use Rattle.std.proofs.lemmas.Option.{get_or_from_slice_get, same_Some, slice_get-get_or, slice_get-map, slice_get_within}
 use mathlib.Core.List.{IsPrefix}
 use Rattle.seq_base.specs.declared.tx.Tx.{Tx}
@@ -152,15 +152,6 @@ taken_by turns (t ∷ ts) = elim (cases_Bool (nat_le t.turn turns)) [
   | inr not_so ↦ rw not_so tt
 ]
 
-same_prefix : {X : Type 0} (xs ys back : List X) → xs ++ back ≡ ys ++ back → xs ≡ ys
-same_prefix [] [] back is = refl
-same_prefix [] (y ∷ ys) back is = absurd (let len = ap length is in let both = length-append (y ∷ ys) back in omega (arith, len, both))
-same_prefix (x ∷ xs) [] back is = absurd (let len = ap length is in let both = length-append (x ∷ xs) back in omega (arith, len, both))
-same_prefix (x ∷ xs) (y ∷ ys) back is =
-    let same : x ≡ y = cc (is) in
-    let rest : xs ++ back ≡ ys ++ back = cc (is) in
-    ap (λ (l : List _). x ∷ l) (same_prefix xs ys back rest) ∙ ap (λ (z : _). z ∷ ys) same
-
 pub given_more_turns : (all : List TimedTx) (turns more : ℕ) (d : Driver) → turns ≤ more → GivenBy turns all d → GivenBy more all d
 given_more_turns all turns more d le g = record { given = g.given; all_is = g.all_is; by = by_more turns more g.given le g.by }
 
@@ -179,7 +170,7 @@ given_on all turns now old new le feed g =
 -- so at no own place of the driver's pass an arrival stands that comes later
 pub none_yet : (all : List TimedTx) (turns bound : ℕ) (d : Driver) → HasGiven all d → GivenBy turns all d → NoneEarly all turns bound d.pass
 none_yet all turns bound d h g p below is =
-    let same : g.given ≡ h.given = same_prefix g.given h.given d.feed.left (sym g.all_is ∙ h.all_is) in
+    let same : g.given ≡ h.given = append_cancel_right g.given h.given d.feed.left (sym g.all_is ∙ h.all_is) in
     let (i, t, found, there) = stand_at d.pass.seen d.pass.own (txs_of h.given) p h.tried.stand.stand is in
     let (a, at, tx) = timed_at h.given i t found in record {
       number = i;
@@ -191,17 +182,8 @@ none_yet all turns bound d h g p below is =
 
 -- ---- what a node knew
 
-below_or : (p q : ℕ) → (p ≡ q) ⊎ ((p < q) ⊎ (q < p))
-below_or p q = elim (cases_Bool (p == q)) [
-  | inl so ↦ inl (grind (arith, nat_tests))
-  | inr not_so ↦ inr (elim (cases_Bool (nat_lt p q)) [
-    | inl less ↦ inl (grind (arith, nat_tests))
-    | inr more ↦ inr (grind (arith, nat_tests))
-  ])
-]
-
 one_place : (xs : List Tx) (p q : ℕ) (t : Tx) → AreDistinct xs → slice_get xs p ≡ Some t → slice_get xs q ≡ Some t → p ≡ q
-one_place xs p q t distinct at there = elim (below_or p q) [
+one_place xs p q t distinct at there = elim (cases_order p q) [
   | inl same ↦ same
   | inr other ↦ absurd (elim other [
     | inl less ↦ distinct p q t less (slice_get_within xs q t there) (get_or_from_slice_get xs p t t at ∙ sym (get_or_from_slice_get xs q t t there))

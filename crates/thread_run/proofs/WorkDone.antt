@@ -1,7 +1,7 @@
 -- What a worker did, one part after another.
 use Rattle.std.proofs.Common.{◌≡◌, ℕ, zero, suc, ◌+◌, ◌<◌, ◌≤◌, List, [], ◌∷◌, ◌++◌, true, Option, Some, None, length, take, drop, refl, ap, sym, subst, ◌∙◌, append_assoc, append-nil, arith}
 use Rattle.std.proofs.lemmas.Grind.{flat_map-append}
-use Rattle.std.proofs.lemmas.List.{take-append-drop}
+use Rattle.std.proofs.lemmas.List.{take-append-drop, take-append-le}
 use mathlib.Core.List.{IsPrefix}
 use Rattle.seq_base.specs.declared.tx.Tx.{Tx}
 use Rattle.locked_log.specs.History.{HasLooked, Known, known}
@@ -114,13 +114,8 @@ fed_taken base known most events from bytes f pre = record {
 
 -- ---- a look at the log
 
-take_within : {X : Type 0} (k : ℕ) (xs ys : List X) → k ≤ length xs → take k (xs ++ ys) ≡ take k xs
-take_within zero xs ys le = refl
-take_within (suc k) [] ys le = absurd (omega (arith, le))
-take_within (suc k) (x ∷ xs) ys le = ap (λ (l : List _). x ∷ l) (take_within k xs ys (omega (arith, le)))
-
 pub take_prefix : {X : Type 0} (k : ℕ) (xs ys : List X) → k ≤ length xs → IsPrefix xs ys → take k ys ≡ take k xs
-take_prefix k xs ys le p = ap (take k) (sym p.1) ∙ take_within k xs p.0 le
+take_prefix k xs ys le p = ap (take k) (sym p.1) ∙ take-append-le k xs p.0 le
 
 pub take_all : {X : Type 0} (k : ℕ) (xs : List X) → k ≡ length xs → take k xs ≡ xs
 take_all zero [] e = refl

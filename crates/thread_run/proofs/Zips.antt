@@ -45,12 +45,6 @@ some_at [] i lt = absurd (omega (arith, lt))
 some_at (x ∷ xs) zero lt = (x, refl)
 some_at (x ∷ xs) (suc i) lt = some_at xs i (omega (arith, lt))
 
--- whatever is taken where there is none
-pub same_or : {X : Type 0} (xs : List X) (i : ℕ) (d e : X) → i < length xs → get_or xs i d ≡ get_or xs i e
-same_or [] i d e lt = absurd (omega (arith, lt))
-same_or (x ∷ xs) zero d e lt = refl
-same_or (x ∷ xs) (suc i) d e lt = same_or xs i d e (omega (arith, lt))
-
 pub range_at : (a n k : ℕ) → k < n → slice_get (range_with_len a n) k ≡ Some (a + k)
 range_at a zero k lt = absurd (omega (arith, lt))
 range_at a (suc n) zero lt = ap Some (omega arith)

@@ -3,6 +3,7 @@ use Rattle.std.specs.Prelude.{◌≡◌, ◌⊎◌, ℕ, ◌+◌, ◌*◌, ◌<�
 use Rattle.std.specs.List.{AllZip, fold}
 use Rattle.seq_base.specs.declared.tx.Tx.{Tx}
 use Rattle.count_set.specs.Sets.{is_among}
+use Rattle.fault_script.specs.Sealing.{Signer}
 use Rattle.plan_text.specs.declared.plan.Plan.{Plan}
 use Rattle.node_core.specs.Rows.{Check}
 use Rattle.node_core.specs.Reported.{Gives}
@@ -17,6 +18,7 @@ use Rattle.thread_run.specs.declared.runs.Run.{Run}
 use Rattle.thread_run.specs.Going.{HasGiven, IsGoing, IsManned}
 use Rattle.thread_run.specs.News.{Took}
 use Rattle.thread_run.specs.Pairs.{AllCompared}
+use Rattle.thread_run.specs.Signers.{fresh_signers}
 use Rattle.thread_run.specs.Standing.{NoneFailed, journals_at, seen_at}
 use Rattle.thread_run.specs.Exchange.{DriverHears, HeardFirst, ReportedClient, ReportedFirst, ReportedWorker}
 use Rattle.thread_run.specs.Timely.{GoesFrom}
@@ -33,6 +35,14 @@ pub record IsCounted {S : Type 0} (plan : Plan) (run : Run S) : Type 0 where
   pub turns : run.turns ≡ sum_by turns_by run.workers.items
   pub few : run.turns < plan.turns + 32 * plan.setting.n
   pub few_ticks : run.ticks ≤ plan.ticks
+
+-- The start of a run: everything is there, and nothing was delivered. With signers that have made no seals, it is a
+-- state before round 0.
+pub record Begins {S : Type 0} (plan : Plan) (m : Meaning S) (signers : List Signer) (run : Run S) : Type 0 where
+  pub manned : IsManned plan run
+  pub counted : IsCounted plan run
+  pub ticks : run.ticks ≡ 0
+  pub going : (fits : Check) (gives : ℕ → Gives) (capacity : ℕ) → signers ≡ fresh_signers plan gives capacity → IsGoing fits plan m gives capacity 0 0 run
 
 -- a worker delivered at most this many envelopes, unless it was out of memory
 abbrev pub HasFew : {S : Type 0} → ℕ → Working S → Type 0

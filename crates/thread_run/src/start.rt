@@ -1,20 +1,16 @@
 //! The start of a threaded run: a log, a mailbox and a worker for each replica, and a worker for each client.
 
-ghost use Rattle.std.specs.Prelude.{◌≡◌, ◌+◌, ◌*◌, ◌<◌, ◌≤◌, ℕ, [], map, length, IfOk, OnOk, All};
+ghost use Rattle.std.specs.Prelude.{◌≡◌, ◌+◌, ◌*◌, ◌<◌, ◌≤◌, [], map, length, IfOk, OnOk, All};
 ghost use Rattle.std.specs.List.{AllZip, range_with_len};
 ghost use Rattle.fault_script.specs.Sealing.{signers_of};
 ghost use Rattle.mailbox.specs.Boxes.{receiver_in};
-ghost use Rattle.node_core.specs.Rows.{Check};
-ghost use Rattle.node_core.specs.Reported.{Gives};
 ghost use Rattle.plan_text.specs.Rules.{KeepsRules};
 ghost use Rattle.replica_seat.specs.Seats.{meaning};
 ghost use Rattle.round_rules.specs.Moments.{everyone};
 ghost use Rattle.locked_log.specs.History.{given, giving};
 ghost use Rattle.thread_run.specs.Finishing.{column, later_columns};
-ghost use Rattle.thread_run.specs.Going.{IsGoing, IsManned};
-ghost use Rattle.thread_run.specs.Signers.{fresh_signers};
 ghost use Rattle.thread_run.specs.Starting.{HasTwo, IsDealt, IsNewClient, drivers_from, pass_with, rows_in, worker_with, workers_from};
-ghost use Rattle.thread_run.specs.Steps.{IsCounted};
+ghost use Rattle.thread_run.specs.Steps.{Begins};
 
 use crate::driver::Driver;
 use crate::replica::Worker;
@@ -43,14 +39,7 @@ pub(crate) fn start<S: Sealer>(
     requires rules { KeepsRules plan.now }
     requires places { map (λ s. S.replica s) sealers.items ≡ everyone plan.now }
     requires room { All (λ s. 5 * plan.now.views ≤ S.capacity s) sealers.items }
-    // Everything is there, and nothing was delivered.
-    ensures manned { IfOk result (λ run. IsManned plan.now run) }
-    ensures counted { IfOk result (λ run. IsCounted plan.now run) }
-    ensures ticks { IfOk result (λ run. run.ticks ≡ 0) }
-    // With sealers that have made no seals, it is a state before round 0.
-    ensures going { IfOk result (λ run. (fits : Check) (gives : ℕ → Gives) (capacity : ℕ)
-        → signers_of S.Sealer sealers.items ≡ fresh_signers plan.now gives capacity
-        → IsGoing fits plan.now (meaning S.replica S.gives) gives capacity 0 0 run) }
+    ensures { IfOk result (Begins plan.now (meaning S.replica S.gives) (signers_of S.Sealer sealers.items)) }
 {
     let seats = seats_of(alloc, plan, sealers)?;
     let due = due_among(alloc, plan, seats.as_slice())?;

@@ -4,9 +4,9 @@ use Rattle.std.specs.List.{flat_map, AllByRecursion, AllPairs}
 use Rattle.std.proofs.Math.Seq.{get_or-append_seam}
 use Rattle.std.proofs.lemmas.List.{append-nil, get_or_append_left, length-append}
 use Rattle.std.proofs.lemmas.List.Quantifiers.{all_pairs_push}
-use Rattle.wire_view.proofs.Exact.{IsBytes, IsBytes-after}
-use Rattle.trace_form.specs.Reading.{go_on, each_at}
-use Rattle.trace_form.proofs.Exact.{IsExact, went_on, ok_is}
+use Rattle.wire_view.proofs.Exact.{IsBytes, IsBytes-after, IsExact, went_on, ok_is}
+use Rattle.wire_view.specs.Reading.{go_on}
+use Rattle.trace_form.specs.Reading.{each_at}
 
 -- the spelling of each, where it depends on those before
 abbrev pub texts : {A : Type 0} → (List A → A → List ℕ) → List A → List A → List ℕ

@@ -1,18 +1,18 @@
 -- Each field is read back as it was spelled.
-use Rattle.std.proofs.Common.{◌≡◌, ℕ, ◌^◌, ◌<◌, ◌≤◌, ◌%◌, Bool, true, false, cond, ltb, List, [], ◌∷◌, ◌++◌, length, take, drop, Option, Some, None, Ok, Err, refl, sym, ap, subst, ◌∙◌, arith}
+use Rattle.std.proofs.Common.{◌≡◌, ℕ, ◌^◌, ◌<◌, ◌≤◌, ◌%◌, List, [], ◌∷◌, ◌++◌, length, Option, Some, None, Ok, refl, sym, ap, subst, ◌∙◌, arith}
 use Rattle.std.specs.Prelude.{nat_le}
-use Rattle.std.specs.Int.{Width, w8, w16, w32, w64, byte_len, from_be_bytes, to_be_bytes}
-use Rattle.std.proofs.lemmas.Bool.{ltb-false, le-ltb, leb-true, le-leb}
-use Rattle.std.proofs.lemmas.List.{take_at, drop_at, take-append-drop, length-append, length-take, append-nil}
-use Rattle.wire_view.proofs.Exact.{IsBytes}
-use Rattle.wire_view.proofs.FieldLaws.{IsBytes-take, IsWide, wide16, wide32, wide64}
+use Rattle.std.specs.Int.{w8, w16, w32, w64, to_be_bytes}
+use Rattle.std.proofs.lemmas.Bool.{leb-true, le-leb}
+use Rattle.std.proofs.lemmas.List.{append-nil}
+use Rattle.wire_view.proofs.Exact.{IsBytes, IsExact, went_on, ok_is, step, known_value, restated, as_format, refit}
+use Rattle.wire_view.proofs.FieldLaws.{number_by, piece_by, wide16, wide32, wide64}
 use Rattle.seq_base.specs.declared.tx.Tx.{Tx}
 use Rattle.seq_base.specs.Tx.{FitsTx}
 use Rattle.seq_base.specs.Spelling.{tx_spelling}
 use Rattle.trace_form.specs.Reading.{byte_at, number_at, piece_at, found_as, coded_at, checked}
 use Rattle.trace_form.specs.Lists.{count_at, tx_at, bytes_at}
 use Rattle.trace_form.specs.Spelling.{bytes_spelling}
-use Rattle.trace_form.proofs.Exact.{IsExact, went_on, ok_is, step, known_value, as_format, restated, refit, checked_exact}
+use Rattle.trace_form.proofs.Exact.{checked_exact}
 
 byte_takes : (bytes : List ℕ) (n : ℕ) (rest : List ℕ) → IsBytes bytes → byte_at bytes ≡ Ok (n, rest) → (bytes ≡ to_be_bytes w8 n ++ rest) × (n < 256)
 byte_takes [] n rest fits e = absurd cc
@@ -24,51 +24,17 @@ byte_takes (b ∷ bytes) n rest fits e =
 pub byte_exact : IsExact (to_be_bytes w8) (λ n. n < 256) byte_at
 byte_exact = record { takes = byte_takes; again = λ n rest lt. let small : n % 256 ≡ n = omega arith in ap (λ (b : ℕ). Ok (b, rest)) small }
 
--- a field that was not cut
-whole_field : {A : Type 0} (b : Bool) (left : ℕ) (x y : A) → cond b (Err left) (Ok x) ≡ Ok y → (b ≡ false) × (x ≡ y)
-whole_field true left x y e = absurd cc
-whole_field false left x y e = (refl, cc)
-
-pub number_exact : (w : Width) (limit : ℕ) → IsWide w limit → IsExact (to_be_bytes w) (λ n. n < limit) (number_at w)
-number_exact w limit wide = record {
-  takes = λ bytes n rest fits e.
-      let g = whole_field (ltb (length bytes) (byte_len w)) (length bytes) (from_be_bytes w (take (byte_len w) bytes), drop (byte_len w) bytes) (n, rest) e in
-      let long : byte_len w ≤ length bytes = ltb-false _ _ g.0 in
-      let prefix = take (byte_len w) bytes in
-      let back : to_be_bytes w (from_be_bytes w prefix) ≡ prefix = wide.back prefix (omega (arith, length-take (byte_len w) bytes)) (IsBytes-take (byte_len w) bytes fits) in
-      subst (λ (y : ℕ × List ℕ). (bytes ≡ to_be_bytes w y.0 ++ y.1) × (y.0 < limit)) g.1
-      (sym (take-append-drop (byte_len w) bytes) ∙ ap (λ (t : List ℕ). t ++ drop (byte_len w) bytes) (sym back), wide.below prefix (IsBytes-take (byte_len w) bytes fits));
-  again = λ n rest lt.
-      let len = wide.len n in
-      let long : ltb (length (to_be_bytes w n ++ rest)) (byte_len w) ≡ false = le-ltb _ _ (omega (arith, length-append (to_be_bytes w n) rest)) in
-      rw (long, take_at (to_be_bytes w n) rest (byte_len w) len, drop_at (to_be_bytes w n) rest (byte_len w) len, wide.again n lt) refl;
-}
-
 pub exact16 : IsExact (to_be_bytes w16) (λ n. n < 2 ^ 16) (number_at w16)
-exact16 = number_exact w16 (2 ^ 16) wide16
+exact16 = number_by length w16 (2 ^ 16) wide16
 
 pub exact32 : IsExact (to_be_bytes w32) (λ n. n < 2 ^ 32) (number_at w32)
-exact32 = number_exact w32 (2 ^ 32) wide32
+exact32 = number_by length w32 (2 ^ 32) wide32
 
 pub exact64 : IsExact (to_be_bytes w64) (λ n. n < 2 ^ 64) (number_at w64)
-exact64 = number_exact w64 (2 ^ 64) wide64
-
-pub piece_size : (size : ℕ) (bytes piece rest : List ℕ) → piece_at size bytes ≡ Ok (piece, rest) → length piece ≡ size
-piece_size size bytes piece rest e =
-    let g = whole_field (ltb (length bytes) size) (length bytes) (take size bytes, drop size bytes) (piece, rest) e in
-    let long : size ≤ length bytes = ltb-false _ _ g.0 in
-    let len : length (take size bytes) ≡ size = omega (arith, length-take size bytes) in
-    subst (λ (y : List ℕ × List ℕ). length y.0 ≡ size) g.1 len
+exact64 = number_by length w64 (2 ^ 64) wide64
 
 pub piece_exact : (size : ℕ) → IsExact (λ bytes. bytes) (λ bytes. length bytes ≡ size) (piece_at size)
-piece_exact size = record {
-  takes = λ bytes x rest fits e.
-      let g = whole_field (ltb (length bytes) size) (length bytes) (take size bytes, drop size bytes) (x, rest) e in
-      (subst (λ (y : List ℕ × List ℕ). bytes ≡ y.0 ++ y.1) g.1 (sym (take-append-drop size bytes)), piece_size size bytes x rest e);
-  again = λ x rest len.
-      let long : ltb (length (x ++ rest)) size ≡ false = le-ltb _ _ (omega (arith, length-append x rest)) in
-      rw (long, take_at x rest size len, drop_at x rest size len) refl;
-}
+piece_exact = piece_by length
 
 pub count_exact : (most : ℕ) → most < 2 ^ 32 → IsExact (to_be_bytes w32) (λ n. n ≤ most) (count_at most)
 unfolding count_at

@@ -8,15 +8,17 @@ use Rattle.std.proofs.lemmas.List.{append-nil}
 use Rattle.std.proofs.lemmas.List.Sums.{AllPass-from_list_all, list_all-from_AllPass}
 use Rattle.seq_base.specs.Setting.{Parameters, parameters, IsValid}
 use Rattle.count_set.proofs.Quorums.{meeting_above_faulty}
+use Rattle.wire_view.proofs.Exact.{IsExact, step, known_value, restated, as_format, refit}
+use Rattle.wire_view.specs.Reading.{◌>>=◌, give}
 use Rattle.trace_form.specs.declared.keys.Form.{Form}
 use Rattle.trace_form.specs.declared.opening.Opening.{Opening}
 use Rattle.trace_form.specs.declared.opening.Span.{Span}
 use Rattle.trace_form.specs.Fitting.{FitFaulty, FitsOpening}
 use Rattle.trace_form.specs.Keys.{form_of}
 use Rattle.trace_form.specs.Opening.{is_valid, numbers_at, setting_at, span_at, member_at, faulty_at, opening_at}
-use Rattle.trace_form.specs.Reading.{◌>>=◌, give, number_at}
+use Rattle.trace_form.specs.Reading.{number_at}
 use Rattle.trace_form.specs.Spelling.{setting_spelling, span_spelling, faulty_spelling, opening_spelling}
-use Rattle.trace_form.proofs.Exact.{IsExact, step, joined, known_value, as_format, restated, refit, checked_exact}
+use Rattle.trace_form.proofs.Exact.{joined, checked_exact}
 use Rattle.trace_form.proofs.FieldExact.{byte_exact, exact16, exact32, short_exact}
 use Rattle.trace_form.proofs.Each.{each_exact, flat_texts, fits_apart, fits_both, StandsAfter, pairs_from, from_pairs, no_pairs}
 use Rattle.trace_form.proofs.Spans.{FitsSpan, form_exact, span_exact}

@@ -5,7 +5,7 @@ use Rattle.std.specs.Int.{w8, w32, to_be_bytes}
 use Rattle.std.specs.List.{flat_map, AllByRecursion}
 use Rattle.std.proofs.lemmas.Bool.{ltb-true, lt-ltb, eqb-true}
 use Rattle.std.proofs.lemmas.List.{append-nil}
-use Rattle.wire_view.proofs.Exact.{IsBytes, IsBytes-after}
+use Rattle.wire_view.proofs.Exact.{IsBytes, IsBytes-after, IsExact, went_on, ok_is, step, known_value, restated, as_format, refit}
 use Rattle.seq_base.specs.declared.tx.Tx.{Tx}
 use Rattle.node_core.specs.declared.event.Event.{Event}
 use Rattle.node_core.specs.declared.event.Event.TheVariants.{Arrived, Deliver, Tick}
@@ -14,14 +14,15 @@ use Rattle.node_core.specs.declared.event.Reason.TheVariants.{Done, BadWire, For
 use Rattle.wire_view.specs.declared.fault.WireFault.TheVariants.{Short, Trailing, Kind, Version, Count, Shape}
 use Rattle.node_core.specs.declared.entry.Entry.{Entry}
 use Rattle.run_record.specs.declared.record.Head.{Head}
+use Rattle.wire_view.specs.Reading.{go_on, ◌>>=◌, give}
 use Rattle.trace_form.specs.declared.account.Account.{Account}
-use Rattle.trace_form.specs.Reading.{go_on, ◌>>=◌, give, byte_at, each_at, checked}
+use Rattle.trace_form.specs.Reading.{byte_at, each_at, checked}
 use Rattle.trace_form.specs.Lists.{bytes_at, list_at}
 use Rattle.trace_form.specs.Spelling.{entries_spelling, head_spelling, batches_spelling, bytes_spelling, list_spelling, statements_spelling, event_spelling, entry_spelling, account_spelling}
 use Rattle.trace_form.specs.Accounts.{statements_at, arrived_at, delivered_at, tick_at, event_at, after_kind, reason_at, entry, entry_at, entries_at, head_at, batches_at, account_at}
 use Rattle.trace_form.specs.Codes.{reason_code, reason_named}
 use Rattle.trace_form.specs.Fitting.{FitsList, FitsBytes, FitsEvent, FitsEntry, FitsAccount}
-use Rattle.trace_form.proofs.Exact.{IsExact, went_on, ok_is, step, known_value, as_format, restated, refit, checked_exact}
+use Rattle.trace_form.proofs.Exact.{checked_exact}
 use Rattle.trace_form.proofs.FieldExact.{byte_exact, exact32, short_exact, bytes_exact, coded_exact}
 use Rattle.trace_form.proofs.Each.{each_exact, flat_texts, flat_fits, fits_flat}
 use Rattle.trace_form.proofs.Txs.{list_exact}

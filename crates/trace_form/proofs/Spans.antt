@@ -10,6 +10,7 @@ use Rattle.std.proofs.lemmas.Slice.Eq.{bytes_eq-Decides}
 use Rattle.seal_kit.specs.Seals.{capacity_of}
 use Rattle.seal_kit.specs.declared.height.Height.{Height}
 use Rattle.seal_kit.specs.declared.height.Height.TheVariants.{H5, H10, H5H5, H5H10}
+use Rattle.wire_view.proofs.Exact.{IsExact, went_on, step, known_value, restated, refit}
 use Rattle.trace_form.specs.declared.keys.Form.{Form}
 use Rattle.trace_form.specs.declared.keys.Form.TheVariants.{Seeded, Keyed}
 use Rattle.trace_form.specs.declared.keys.Keys.{Keys}
@@ -21,7 +22,7 @@ use Rattle.trace_form.specs.Keys.{magic, form_named, form_at, form_of, key_at, k
 use Rattle.trace_form.specs.Opening.{height_at, has_seals, is_within, any_seeded_at, seals_at, keyed_at, span_at}
 use Rattle.trace_form.specs.Reading.{piece_at, found_as, checked}
 use Rattle.trace_form.specs.Spelling.{span_spelling}
-use Rattle.trace_form.proofs.Exact.{IsExact, went_on, step, known_value, restated, refit, respelled, checked_exact}
+use Rattle.trace_form.proofs.Exact.{respelled, checked_exact}
 use Rattle.trace_form.proofs.FieldExact.{exact32, exact64, piece_exact, coded_exact, named_is}
 use Rattle.trace_form.proofs.Parts.{flat_exact}
 

@@ -1,9 +1,10 @@
 -- Reading one more of a list, and stopping at it.
 use Rattle.std.proofs.Common.{◌≡◌, ℕ, suc, ◌+◌, ◌-◌, ◌<◌, ◌≤◌, List, [], ◌∷◌, ◌++◌, Result, Ok, Err, sym, ap, ◌∙◌, arith}
+use Rattle.wire_view.specs.Reading.{go_on}
 use Rattle.trace_form.specs.declared.fault.Stop.{Stop}
 use Rattle.trace_form.specs.declared.fault.Stop.TheVariants.{Left, NoMemory}
 use Rattle.trace_form.specs.Gives.{Blames}
-use Rattle.trace_form.specs.Reading.{go_on, each_at}
+use Rattle.trace_form.specs.Reading.{each_at}
 
 module _ {A : Type 0} (one : List A → List ℕ → Result (A × List ℕ) ℕ) (n at : ℕ) (before : List A) (bytes : List ℕ) (total : Result (List A × List ℕ) ℕ) where
   pub each_goes_on : (x : A) (rest : List ℕ) → at < n → one before bytes ≡ Ok (x, rest) → each_at one (n - at) before bytes ≡ total → each_at one (n - (at + 1)) (before ++ x ∷ []) rest ≡ total

@@ -8,10 +8,11 @@ use Rattle.seq_base.specs.declared.tx.Tx.{Tx}
 use Rattle.seq_base.specs.Lists.{holds, AreDistinct}
 use Rattle.seq_base.specs.Spelling.{tx_spelling}
 use Rattle.seq_base.specs.Tx.{FitsTx, tx_eq, tx_eq_decides}
+use Rattle.wire_view.proofs.Exact.{IsExact, step, restated, as_format}
 use Rattle.trace_form.specs.Lists.{new_tx_at, list_at}
 use Rattle.trace_form.specs.Spelling.{list_spelling}
 use Rattle.trace_form.specs.Fitting.{FitsList}
-use Rattle.trace_form.proofs.Exact.{IsExact, step, as_format, restated, checked_exact}
+use Rattle.trace_form.proofs.Exact.{checked_exact}
 use Rattle.trace_form.proofs.FieldExact.{count_exact, tx_exact}
 use Rattle.trace_form.proofs.Each.{AllFit, each_exact, flat_texts, fits_apart, fits_both, StandsAfter, pairs_from, from_pairs, no_pairs}
 

@@ -4,11 +4,12 @@ use Rattle.std.specs.Prelude.{◌==◌, All, IfOk, if◌then◌else◌}
 use Rattle.std.specs.List.{flat_map, AllByRecursion}
 use Rattle.std.proofs.lemmas.Bool.{eqb-true, cases_lt}
 use Rattle.std.proofs.lemmas.List.{append-nil, nil_from_length, length-append, get_or_past}
-use Rattle.wire_view.proofs.Exact.{IsBytes}
+use Rattle.wire_view.proofs.Exact.{IsBytes, IsExact, step, known_value, restated, ok_is, as_format}
 use Rattle.seq_base.specs.declared.tx.Tx.{Tx}
 use Rattle.count_set.specs.Sets.{is_among}
 use Rattle.run_record.specs.declared.record.Head.{Head}
 use Rattle.run_record.specs.declared.record.Journal.{Journal}
+use Rattle.wire_view.specs.Reading.{◌>>=◌, give}
 use Rattle.trace_form.specs.declared.account.Account.{Account}
 use Rattle.trace_form.specs.declared.contents.Contents.{Contents}
 use Rattle.trace_form.specs.declared.opening.Opening.{Opening}
@@ -19,9 +20,9 @@ use Rattle.trace_form.specs.Contents.{bare, trace_of}
 use Rattle.trace_form.specs.Fitting.{FitsAccountOf, FitAccounts, FitsContents, FitsList, FitsOpening, Traces}
 use Rattle.trace_form.specs.Form.{contents_at, placed, read_of, ReadsAs}
 use Rattle.trace_form.specs.Lists.{list_at}
-use Rattle.trace_form.specs.Reading.{◌>>=◌, give, whole, each_at}
+use Rattle.trace_form.specs.Reading.{whole, each_at}
 use Rattle.trace_form.specs.Spelling.{list_spelling, account_spelling, accounts_spelling, opening_spelling, contents_spelling}
-use Rattle.trace_form.proofs.Exact.{IsExact, step, joined, known_value, as_format, restated, ok_is}
+use Rattle.trace_form.proofs.Exact.{joined}
 use Rattle.trace_form.proofs.Each.{texts, AllFit, each_exact}
 use Rattle.trace_form.proofs.Txs.{list_exact}
 use Rattle.trace_form.proofs.Parts.{flat_exact, account_exact}

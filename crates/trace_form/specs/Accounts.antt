@@ -8,11 +8,12 @@ use Rattle.node_core.specs.declared.event.Event.TheVariants.{Arrived, Deliver, T
 use Rattle.node_core.specs.declared.event.Reason.{Reason}
 use Rattle.node_core.specs.declared.entry.Entry.{Entry}
 use Rattle.run_record.specs.declared.record.Head.{Head}
+use Rattle.wire_view.specs.Reading.{◌>>=◌, give}
 use Rattle.trace_form.specs.declared.account.Account.{Account}
 use Rattle.trace_form.specs.Codes.{reason_named}
 use Rattle.trace_form.specs.Contents.{bare}
 use Rattle.trace_form.specs.Lists.{list_at, bytes_at}
-use Rattle.trace_form.specs.Reading.{TraceReader, ◌>>=◌, give, byte_at, number_at, checked, coded_at, each_at}
+use Rattle.trace_form.specs.Reading.{TraceReader, byte_at, number_at, checked, coded_at, each_at}
 
 unfoldable pub arrived_at : TraceReader Event
 arrived_at = do

@@ -1,5 +1,6 @@
 -- Reading a whole trace.
 use Rattle.std.specs.Prelude.{◌≡◌, ℕ, ◌-◌, List, [], true, length, Result, Ok, Err}
+use Rattle.wire_view.specs.Reading.{◌>>=◌, give}
 use Rattle.trace_form.specs.declared.contents.Contents.{Contents}
 use Rattle.trace_form.specs.declared.fault.TraceFault.{TraceFault}
 use Rattle.trace_form.specs.declared.fault.TraceFault.TheVariants.{BadTrace, NoMemory}
@@ -8,7 +9,7 @@ use Rattle.trace_form.specs.Accounts.{next_account_at}
 use Rattle.trace_form.specs.Contents.{trace_of}
 use Rattle.trace_form.specs.Lists.{list_at}
 use Rattle.trace_form.specs.Opening.{opening_at}
-use Rattle.trace_form.specs.Reading.{TraceReader, ◌>>=◌, give, each_at, whole}
+use Rattle.trace_form.specs.Reading.{TraceReader, each_at, whole}
 
 unfoldable pub contents_at : TraceReader Contents
 contents_at = do

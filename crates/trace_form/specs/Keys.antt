@@ -2,11 +2,12 @@
 use Rattle.std.specs.Prelude.{◌≡◌, ℕ, ◌^◌, ◌<◌, List, [], length, Option, Some, None, codes, if◌then◌else◌}
 use Rattle.std.specs.List.{AllByRecursion}
 use Rattle.std.specs.Str.{bytes_eq}
+use Rattle.wire_view.specs.Reading.{◌>>=◌}
 use Rattle.trace_form.specs.declared.keys.Keys.{Keys}
 use Rattle.trace_form.specs.declared.keys.Keys.TheVariants.{Seed, Public}
 use Rattle.trace_form.specs.declared.keys.Form.{Form}
 use Rattle.trace_form.specs.declared.keys.Form.TheVariants.{Seeded, Keyed}
-use Rattle.trace_form.specs.Reading.{TraceReader, ◌>>=◌, piece_at, found_as, each_at}
+use Rattle.trace_form.specs.Reading.{TraceReader, piece_at, found_as, each_at}
 
 -- the first bytes of a trace
 abbrev pub magic : Form → List ℕ

@@ -3,7 +3,8 @@ use Rattle.std.specs.Prelude.{ℕ, List, [], Bool, ◌&&◌, not, nat_le}
 use Rattle.std.specs.Int.{w32, w64}
 use Rattle.seq_base.specs.declared.tx.Tx.{Tx}
 use Rattle.seq_base.specs.Lists.{holds}
-use Rattle.trace_form.specs.Reading.{TraceReader, ◌>>=◌, give, number_at, piece_at, checked, each_at}
+use Rattle.wire_view.specs.Reading.{◌>>=◌, give}
+use Rattle.trace_form.specs.Reading.{TraceReader, number_at, piece_at, checked, each_at}
 
 unfoldable pub count_at : ℕ → TraceReader ℕ
 count_at most = checked (λ n. nat_le n most) (number_at w32)

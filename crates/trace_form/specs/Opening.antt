@@ -5,6 +5,7 @@ use Rattle.std.specs.Int.{w16, w32, w64}
 use Rattle.seq_base.specs.Setting.{Parameters, parameters}
 use Rattle.seal_kit.specs.Seals.{capacity_of}
 use Rattle.seal_kit.specs.declared.height.Height.{Height}
+use Rattle.wire_view.specs.Reading.{◌>>=◌, give}
 use Rattle.trace_form.specs.declared.keys.Form.{Form}
 use Rattle.trace_form.specs.declared.keys.Form.TheVariants.{Seeded, Keyed}
 use Rattle.trace_form.specs.declared.keys.Keys.{Keys}
@@ -14,7 +15,7 @@ use Rattle.trace_form.specs.declared.opening.Span.{Span}
 use Rattle.trace_form.specs.Codes.{height_named}
 use Rattle.trace_form.specs.Contents.{span_of}
 use Rattle.trace_form.specs.Keys.{form_at, keys_at}
-use Rattle.trace_form.specs.Reading.{TraceReader, ◌>>=◌, give, byte_at, number_at, checked, coded_at, each_at}
+use Rattle.trace_form.specs.Reading.{TraceReader, byte_at, number_at, checked, coded_at, each_at}
 
 -- the test of a setting, as IsValid says
 abbrev pub is_valid : Parameters → Bool

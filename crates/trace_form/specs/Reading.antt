@@ -2,23 +2,12 @@
 -- faulty field on.
 use Rattle.std.specs.Prelude.{ℕ, zero, suc, Bool, List, [], ◌∷◌, ◌++◌, length, take, drop, Option, Some, None, Result, Ok, Err, nat_lt, ◌==◌, if◌then◌else◌}
 use Rattle.std.specs.Int.{Width, byte_len, from_be_bytes}
+use Rattle.wire_view.specs.Reading.{◌>>=◌, give}
 
 -- A reader takes a value from the start of the bytes. Its fault is how many bytes were left where the faulty field
 -- began.
 abbrev pub TraceReader : Type 0 → Type 0
 TraceReader A = List ℕ → Result (A × List ℕ) ℕ
-
-abbrev pub go_on : {A B : Type 0} → Result (A × List ℕ) ℕ → (A → List ℕ → Result (B × List ℕ) ℕ) → Result (B × List ℕ) ℕ
-go_on (Ok x) next = next x.0 x.1
-go_on (Err left) next = Err left
-
--- one reader, and then another, which has the value of the first
-infixl 10 ◌>>=◌
-abbrev pub ◌>>=◌ : {A B : Type 0} → (List ℕ → Result (A × List ℕ) ℕ) → (A → List ℕ → Result (B × List ℕ) ℕ) → List ℕ → Result (B × List ℕ) ℕ
-(first >>= next) bytes = go_on (first bytes) next
-
-abbrev pub give : {A : Type 0} → A → List ℕ → Result (A × List ℕ) ℕ
-give x bytes = Ok (x, bytes)
 
 -- ---- fields
 

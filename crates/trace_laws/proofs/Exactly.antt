@@ -1,11 +1,11 @@
 -- The record of an exact run fits the form of its trace.
-use Rattle.std.proofs.Common.{◌≡◌, ◌∙◌, ◌<◌, ◌^◌, ℕ, zero, suc, List, [], ◌∷◌, map, false, Option, Some, sym, ap, subst, arith}
+use Rattle.std.proofs.Common.{◌≡◌, ◌∙◌, ◌<◌, ◌^◌, ℕ, List, [], ◌∷◌, false, Option, Some, sym, ap, subst, arith}
 use Rattle.std.specs.Prelude.{All, slice_get}
 use Rattle.std.specs.Option.{option_map, option_map_or}
 use Rattle.std.proofs.lemmas.List.{length-map}
 use Rattle.std.proofs.lemmas.List.Elements.{All-cons, All-head, All-nil, All-tail}
 use Rattle.std.proofs.lemmas.Option.{slice_get-map}
-use Rattle.std.proofs.Common.{get_or}
+use Rattle.seq_base.proofs.Options.{at_map}
 use Rattle.count_set.specs.Sets.{is_among}
 use Rattle.fault_script.specs.Sealing.{Signer}
 use Rattle.plan_text.specs.declared.plan.Plan.{Plan}
@@ -48,11 +48,6 @@ all_from fits gives s n (e ∷ events) all =
 -- what three lists of facts imply for each entry
 pub turns_fit : (n : ℕ) (journal : List Entry) → All (λ e. IsFrom n e.event) journal → All ShortFloor journal → All SealedTwo journal → All (FitsTurn n) journal
 turns_fit n journal from floors few i d inside = record { from = from i d inside; floor = floors i d inside; few = few i d inside }
-
-at_map : {X Y : Type 0} (f : X → Y) (xs : List X) (k : ℕ) (x : X) (d : Y) → slice_get xs k ≡ Some x → get_or (map f xs) k d ≡ f x
-at_map f [] k x d found = absurd (cc)
-at_map f (y ∷ xs) zero x d found = let same : y ≡ x = cc in ap f same
-at_map f (y ∷ xs) (suc k) x d found = at_map f xs k x d found
 
 module _ (run_their_nodes : (fits : Check) (plan : Plan) (sealers : List Signer) (steps at : ℕ) (r : Replica)
     → WhereSealers plan sealers (WhereHonest fits plan sealers steps at r (IsRun fits plan at (capacity_at sealers at) r)))

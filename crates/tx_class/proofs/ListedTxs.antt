@@ -1,5 +1,5 @@
 -- The listed transactions are those that a list holds.
-use Rattle.std.proofs.Common.{◌≡◌, ℕ, ◌+◌, ◌<◌, List, [], ◌∷◌, ◌++◌, get_or, Bool, true, false, cond, refl, sym, ap, subst, ◌∙◌, inl, inr, arith}
+use Rattle.std.proofs.Common.{◌≡◌, ◌+◌, ◌<◌, List, [], ◌∷◌, ◌++◌, get_or, Bool, true, false, refl, sym, ap, subst, ◌∙◌, inl, inr, arith}
 use Rattle.std.specs.Prelude.{◌↔◌, ◌||◌, fold}
 use Rattle.std.specs.List.{AllByRecursion, flat_map, dedup, Contains}
 use Rattle.std.specs.List.Sorted.{IsStrictlySortedBy, IsSorted, IsPermutation}
@@ -18,6 +18,7 @@ use Rattle.seq_base.specs.declared.tx.Tx.{Tx}
 use Rattle.seq_base.specs.Lists.{holds, listed}
 use Rattle.seq_base.specs.Tx.{tx_cmp, tx_eq, tx_eq_decides, tx_eq_ties, tx_cmp_total}
 use Rattle.seq_base.proofs.Members.{same_members, holds_place}
+use Rattle.seq_base.proofs.Points.{point, or_false}
 use Rattle.tx_class.specs.Listed.{listed_in, AreListed}
 
 greater_turns : (k x : Tx) → tx_cmp k x ≡ Greater → tx_cmp x k ≡ Less
@@ -83,13 +84,6 @@ holds_all (x ∷ txs) ks t =
     or_assoc : (a b c : Bool) → (a || (b || c)) ≡ ((a || b) || c)
     or_assoc true b c = refl
     or_assoc false b c = refl
-
-or_false : (a : Bool) → (a || false) ≡ a
-or_false true = refl
-or_false false = refl
-
-abbrev point : Bool → ℕ
-point b = cond b 1 0
 
 -- the concatenation of the lists holds what some list holds
 pub joined_holds : (lists : List (List Tx)) (t : Tx) → (holds t (flat_map (λ (list : List Tx). list) lists) ≡ true) ↔ (0 < listed lists t)

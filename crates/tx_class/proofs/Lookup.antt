@@ -16,13 +16,10 @@ use Rattle.seq_base.specs.declared.tx.Tx.{Tx}
 use Rattle.seq_base.specs.Lists.{holds, listed}
 use Rattle.seq_base.specs.Setting.{Parameters}
 use Rattle.seq_base.specs.Tx.{tx_cmp, tx_eq, tx_eq_decides, tx_cmp_total}
-use Rattle.seq_base.proofs.Members.{holds_place}
+use Rattle.seq_base.proofs.Members.{holds_place, any_tx}
 use Rattle.tx_class.specs.Listed.{listed_in}
 use Rattle.tx_class.specs.Tally.{tally_of, count_in}
 use Rattle.tx_class.proofs.ListedTxs.{are_listed, tied_is}
-
-some_tx : Tx
-some_tx = record { client = 0; number = 0; payload = 0 }
 
 abbrev pub place : Tx → List Tx → ℕ
 place t txs = position_or_len (λ x. tx_eq x t) txs
@@ -41,15 +38,15 @@ place_inside txs t held =
     ]
 
 -- the transaction at that place is it
-at_place : (txs : List Tx) (t : Tx) → place t txs < length txs → get_or txs (place t txs) some_tx ≡ t
-at_place txs t inside = (tx_eq_decides (get_or txs (place t txs) some_tx) t).0 (passes_at_first (λ x. tx_eq x t) txs some_tx inside)
+at_place : (txs : List Tx) (t : Tx) → place t txs < length txs → get_or txs (place t txs) any_tx ≡ t
+at_place txs t inside = (tx_eq_decides (get_or txs (place t txs) any_tx) t).0 (passes_at_first (λ x. tx_eq x t) txs any_tx inside)
 
 -- the count at that place
 pub count_is : (s : Parameters) (lists : List (List Tx)) (t : Tx) → count_in (tally_of s lists) t ≡ listed lists t
 count_is s lists t =
     elim (cases_lt (place t (listed_in lists)) (length (listed_in lists))) [
       | inl inside ↦
-          get_or-map (listed lists) (listed_in lists) (place t (listed_in lists)) some_tx 0 inside
+          get_or-map (listed lists) (listed_in lists) (place t (listed_in lists)) any_tx 0 inside
           ∙ ap (listed lists) (at_place (listed_in lists) t inside)
       | inr past ↦
           let none : get_or (map (listed lists) (listed_in lists)) (place t (listed_in lists)) 0 ≡ 0 =
@@ -91,13 +88,13 @@ searchable txs t ascending i j d low inside =
 -- a search that finds t finds its place
 pub found_at : (txs : List Tx) (t : Tx) (at : ℕ) → IsStrictlySortedBy tx_cmp txs → at < length txs → HoldsAt (λ y. tx_cmp y t ≡ Equal) txs at → place t txs ≡ at
 found_at txs t at ascending inside tied =
-    position_or_len_is (λ x. tx_eq x t) txs at some_tx (omega arith)
-    (λ k below. false_from_ne_true (tx_eq (get_or txs k some_tx) t) (λ also.
-    let less : tx_cmp (get_or txs k some_tx) (get_or txs at some_tx) ≡ Less = Less-from_sorted tx_cmp txs k at some_tx ascending below inside in
-    let here : get_or txs at some_tx ≡ t = tied_is (get_or txs at some_tx) t (tied some_tx) in
-    let there : get_or txs k some_tx ≡ t = (tx_eq_decides (get_or txs k some_tx) t).0 also in
-    (cc (subst (λ (y : Tx). tx_cmp y (get_or txs at some_tx) ≡ Less) (there ∙ sym here) less, tied_itself tx_cmp_total (get_or txs at some_tx)))))
-    (λ short. (tx_eq_decides (get_or txs at some_tx) t).1 (tied_is (get_or txs at some_tx) t (tied some_tx)))
+    position_or_len_is (λ x. tx_eq x t) txs at any_tx (omega arith)
+    (λ k below. false_from_ne_true (tx_eq (get_or txs k any_tx) t) (λ also.
+    let less : tx_cmp (get_or txs k any_tx) (get_or txs at any_tx) ≡ Less = Less-from_sorted tx_cmp txs k at any_tx ascending below inside in
+    let here : get_or txs at any_tx ≡ t = tied_is (get_or txs at any_tx) t (tied any_tx) in
+    let there : get_or txs k any_tx ≡ t = (tx_eq_decides (get_or txs k any_tx) t).0 also in
+    (cc (subst (λ (y : Tx). tx_cmp y (get_or txs at any_tx) ≡ Less) (there ∙ sym here) less, tied_itself tx_cmp_total (get_or txs at any_tx)))))
+    (λ short. (tx_eq_decides (get_or txs at any_tx) t).1 (tied_is (get_or txs at any_tx) t (tied any_tx)))
 
 -- where a search does not find t, t is absent
 pub found_nowhere : (txs : List Tx) (t : Tx) (at : ℕ) → AllWithin (λ y. tx_cmp y t ≡ Less) txs 0 at → AllWithin (λ y. tx_cmp y t ≡ Greater) txs at (length txs) → length txs ≤ place t txs
@@ -105,10 +102,10 @@ found_nowhere txs t at below above =
     elim (cases_lt (place t txs) (length txs)) [
       | inr past ↦ past
       | inl inside ↦
-          let tied : tx_cmp (get_or txs (place t txs) some_tx) t ≡ Equal = equal_tied (get_or txs (place t txs) some_tx) t (at_place txs t inside) in
+          let tied : tx_cmp (get_or txs (place t txs) any_tx) t ≡ Equal = equal_tied (get_or txs (place t txs) any_tx) t (at_place txs t inside) in
           elim (cases_lt (place t txs) at) [
-            | inl low ↦ absurd (cc (below (place t txs) some_tx (omega arith) low, tied))
-            | inr high ↦ absurd (cc (above (place t txs) some_tx high inside, tied))
+            | inl low ↦ absurd (cc (below (place t txs) any_tx (omega arith) low, tied))
+            | inr high ↦ absurd (cc (above (place t txs) any_tx high inside, tied))
           ]
     ]
   where

@@ -1,5 +1,5 @@
 -- How many times a transaction occurs in a list.
-use Rattle.std.proofs.Common.{◌≡◌, ℕ, zero, suc, ◌+◌, ◌<◌, ◌≤◌, min, List, [], ◌∷◌, ◌++◌, length, map, take, get_or, Bool, true, false, cond, refl, sym, ap, subst, ◌∙◌, inl, inr, arith}
+use Rattle.std.proofs.Common.{◌≡◌, ℕ, zero, suc, ◌+◌, ◌<◌, ◌≤◌, min, List, [], ◌∷◌, ◌++◌, length, map, take, get_or, Bool, true, false, refl, sym, ap, subst, ◌∙◌, inl, inr, arith}
 use Rattle.std.specs.Prelude.{◌↔◌, ◌||◌, count_by, sum_by}
 use Rattle.std.specs.List.{AllByRecursion}
 use Rattle.std.specs.List.Sorted.{IsSorted, IsStrictlySortedBy, IsPartitionPoint, IsPartitionedBy}
@@ -18,11 +18,10 @@ use Rattle.seq_base.specs.Tx.{tx_cmp, tx_eq, tx_eq_decides, tx_eq_ties, tx_cmp_t
 use Rattle.tx_class.proofs.ListedTxs.{one_list}
 use Rattle.tx_class.specs.Listed.{listed_in}
 use Rattle.seq_base.specs.Setting.{Parameters, threshold_of, solid_of}
+use Rattle.seq_base.proofs.Members.{any_tx}
+use Rattle.seq_base.proofs.Points.{point}
 use Rattle.tx_class.specs.Sorted.{times}
 use Rattle.tx_class.specs.Tally.{tally_of}
-
-abbrev pub point : Bool → ℕ
-point b = cond b 1 0
 
 -- a list holds what occurs in it at least once
 pub holds_times : (xs : List Tx) (t : Tx) → (holds t xs ≡ true) ↔ (0 < times t xs)
@@ -81,9 +80,6 @@ joined_more lists i all held list t inside here before ascending same =
     ∙ ap (λ (n : ℕ). listed (take i lists) t + n) (times_ascending held t ascending ∙ ap point same ∙ ap (λ (xs : List Tx). point (holds t xs)) here)
     ∙ sym (sum_by_more (λ (xs : List Tx). point (holds t xs)) lists i list inside)
 
-some_tx : Tx
-some_tx = record { client = 0; number = 0; payload = 0 }
-
 -- the number of elements that pass a test is the position that separates them from the others
 count_in : (p : Tx → Bool) (xs : List Tx) (i k : ℕ) → IsPartitionPoint (λ x. p x ≡ true) (λ x. p x ≡ false) xs i → k ≤ length xs → count_by p (take k xs) ≡ min k i
 count_in p xs i zero parts inside = omega arith
@@ -93,10 +89,10 @@ count_in p xs i (suc k) parts inside =
     let here : count_by p (take (suc k) xs) ≡ count_by p (take (k + 1) xs) = ap (λ (n : ℕ). count_by p (take n xs)) next in
     elim (cases_lt k i) [
       | inl before ↦
-          let more : count_by p (take (k + 1) xs) ≡ count_by p (take k xs) + 1 = count_by_more_yes p xs k some_tx (omega arith) (parts.0 k some_tx (omega arith) before) in
+          let more : count_by p (take (k + 1) xs) ≡ count_by p (take k xs) + 1 = count_by_more_yes p xs k any_tx (omega arith) (parts.0 k any_tx (omega arith) before) in
           omega (arith, here, more, rest)
       | inr after ↦
-          let same : count_by p (take (k + 1) xs) ≡ count_by p (take k xs) = count_by_more_no p xs k some_tx (omega arith) (parts.1 k some_tx after (omega arith)) in
+          let same : count_by p (take (k + 1) xs) ≡ count_by p (take k xs) = count_by_more_no p xs k any_tx (omega arith) (parts.1 k any_tx after (omega arith)) in
           omega (arith, here, same, rest)
     ]
 

@@ -1,5 +1,5 @@
 -- Each field is read back as it was spelled.
-use Rattle.std.proofs.Common.{◌≡◌, ℕ, zero, suc, ◌+◌, ◌^◌, ◌<◌, ◌≤◌, ◌%◌, Bool, true, false, cond, ltb, List, [], ◌∷◌, ◌++◌, length, take, drop, Result, Ok, Err, refl, sym, ap, subst, ◌∙◌, arith, inl, inr}
+use Rattle.std.proofs.Common.{◌≡◌, ℕ, ◌+◌, ◌^◌, ◌<◌, ◌≤◌, ◌%◌, Bool, true, false, cond, ltb, List, [], ◌∷◌, ◌++◌, length, take, drop, Result, Ok, Err, refl, sym, ap, subst, ◌∙◌, arith, inl, inr}
 use Rattle.std.specs.Int.{Width, w8, w16, w32, w64, byte_len, from_be_bytes, to_be_bytes}
 use Rattle.std.proofs.lemmas.Bool.{cases_lt, ltb-false, le-ltb}
 use Rattle.std.proofs.lemmas.List.{take_at, drop_at, take-append-drop, length-append, length-take, get_or-take, get_or-drop, get_or_past, append-nil}
@@ -10,7 +10,7 @@ use Rattle.seq_base.specs.Writable.{IsWritableDigest, IsWritableSeal}
 use Rattle.wire_view.specs.declared.fault.WireFault.{WireFault}
 use Rattle.wire_view.specs.declared.fault.WireFault.TheVariants.{Short, Count, Shape}
 use Rattle.wire_view.specs.Reading.{◌>>=◌, byte_at, number_at, piece_at, short_count_at, long_count_at, digest_at, seal_at, replica_at}
-use Rattle.wire_view.proofs.Exact.{IsBytes, IsExact, Format, went_on, ok_is, step, known_value, restated}
+use Rattle.wire_view.proofs.Exact.{IsBytes, IsExact, went_on, ok_is, step, known_value, restated, refit, as_format}
 
 pub IsBytes-take : (n : ℕ) (bytes : List ℕ) → IsBytes bytes → IsBytes (take n bytes)
 IsBytes-take n bytes h i =
@@ -26,7 +26,7 @@ pub IsBytes-prefix : (text rest : List ℕ) → IsBytes (text ++ rest) → IsByt
 IsBytes-prefix text rest h = subst IsBytes (take_at text rest (length text) refl) (IsBytes-take (length text) (text ++ rest) h)
 
 -- a test that did not fail
-pub guard_ok : {A : Type 0} (b : Bool) (fault : WireFault) (x y : A) → cond b (Err fault) (Ok x) ≡ Ok y → (b ≡ false) × (x ≡ y)
+pub guard_ok : {A E : Type 0} (b : Bool) (fault : E) (x y : A) → cond b (Err fault) (Ok x) ≡ Ok y → (b ≡ false) × (x ≡ y)
 guard_ok true fault x y e = absurd cc
 guard_ok false fault x y e = (refl, cc)
 
@@ -42,18 +42,9 @@ tested {A} {text} {Fits} {reads} exact bad fault = record {
   again = λ x rest h. rw (exact.again x rest h.0, h.1) refl;
 }
 
-pub refit : {A : Type 0} {text : A → List ℕ} {Fits : A → Type 0} {reads : List ℕ → Result (A × List ℕ) WireFault} (exact : IsExact text Fits reads) (Other : A → Type 0) → ((x : A) → Fits x → Other x) → ((x : A) → Other x → Fits x) → IsExact text Other reads
-refit exact Other to from = record {
-  takes = λ bytes x rest fits e. let t = exact.takes bytes x rest fits e in (t.0, to x t.1);
-  again = λ x rest h. exact.again x rest (from x h);
-}
-
-unfoldable pub as_format : {A : Type 0} {text : A → List ℕ} {Fits : A → Type 0} {reads : List ℕ → Result (A × List ℕ) WireFault} → IsExact text Fits reads → Format A reads
-as_format {A} {text} {Fits} exact = record { text = text; Fits = Fits; takes = exact.takes; again = exact.again }
-
 -- ---- numbers
 
-byte_takes : (bytes : List ℕ) (n : ℕ) (rest : List ℕ) → IsBytes bytes → byte_at bytes ≡ Ok (n, rest) → (bytes ≡ to_be_bytes w8 n ++ rest) × (n < 256)
+pub byte_takes : (bytes : List ℕ) (n : ℕ) (rest : List ℕ) → IsBytes bytes → byte_at bytes ≡ Ok (n, rest) → (bytes ≡ to_be_bytes w8 n ++ rest) × (n < 256)
 byte_takes [] n rest fits e = absurd cc
 byte_takes (b ∷ bytes) n rest fits e =
     let lt : b < 256 = fits 0 in
@@ -93,10 +84,12 @@ wide64 = record {
   below = λ bytes fits. omega (arith, fits 0, fits 1, fits 2, fits 3, fits 4, fits 5, fits 6, fits 7);
 }
 
-pub number_exact : (w : Width) (limit : ℕ) → IsWide w limit → IsExact (to_be_bytes w) (λ n. n < limit) (number_at w)
-number_exact w limit wide = record {
+-- a number, whatever the fault of bytes that end inside it
+pub number_by : {E : Type 0} (fault : List ℕ → E) (w : Width) (limit : ℕ) → IsWide w limit
+    → IsExact (to_be_bytes w) (λ n. n < limit) (λ bytes. cond (ltb (length bytes) (byte_len w)) (Err (fault bytes)) (Ok (from_be_bytes w (take (byte_len w) bytes), drop (byte_len w) bytes)))
+number_by fault w limit wide = record {
   takes = λ bytes n rest fits e.
-      let g = guard_ok (ltb (length bytes) (byte_len w)) Short (from_be_bytes w (take (byte_len w) bytes), drop (byte_len w) bytes) (n, rest) e in
+      let g = guard_ok (ltb (length bytes) (byte_len w)) (fault bytes) (from_be_bytes w (take (byte_len w) bytes), drop (byte_len w) bytes) (n, rest) e in
       let long : byte_len w ≤ length bytes = ltb-false _ _ g.0 in
       let prefix = take (byte_len w) bytes in
       let back : to_be_bytes w (from_be_bytes w prefix) ≡ prefix = wide.back prefix (omega (arith, length-take (byte_len w) bytes)) (IsBytes-take (byte_len w) bytes fits) in
@@ -108,17 +101,29 @@ number_exact w limit wide = record {
       rw (long, take_at (to_be_bytes w n) rest (byte_len w) len, drop_at (to_be_bytes w n) rest (byte_len w) len, wide.again n lt) refl;
 }
 
-pub piece_exact : (size : ℕ) → IsExact (λ bytes. bytes) (λ bytes. length bytes ≡ size) (piece_at size)
-piece_exact size = record {
-  takes = λ bytes x rest fits e.
-      let g = guard_ok (ltb (length bytes) size) Short (take size bytes, drop size bytes) (x, rest) e in
-      let long : size ≤ length bytes = ltb-false _ _ g.0 in
-      let len : length (take size bytes) ≡ size = omega (arith, length-take size bytes) in
-      subst (λ (y : List ℕ × List ℕ). (bytes ≡ y.0 ++ y.1) × (length y.0 ≡ size)) g.1 (sym (take-append-drop size bytes), len);
+pub number_exact : (w : Width) (limit : ℕ) → IsWide w limit → IsExact (to_be_bytes w) (λ n. n < limit) (number_at w)
+number_exact = number_by (λ bytes. Short)
+
+-- a piece of a given size, in the same way
+pub piece_taken : {E : Type 0} (fault : E) (size : ℕ) (bytes piece rest : List ℕ) → cond {A = Result (List ℕ × List ℕ) E} (ltb (length bytes) size) (Err fault) (Ok (take size bytes, drop size bytes)) ≡ Ok (piece, rest)
+    → (bytes ≡ piece ++ rest) × (length piece ≡ size)
+piece_taken fault size bytes piece rest e =
+    let g = guard_ok (ltb (length bytes) size) fault (take size bytes, drop size bytes) (piece, rest) e in
+    let long : size ≤ length bytes = ltb-false _ _ g.0 in
+    let len : length (take size bytes) ≡ size = omega (arith, length-take size bytes) in
+    subst (λ (y : List ℕ × List ℕ). (bytes ≡ y.0 ++ y.1) × (length y.0 ≡ size)) g.1 (sym (take-append-drop size bytes), len)
+
+pub piece_by : {E : Type 0} (fault : List ℕ → E) (size : ℕ)
+    → IsExact (λ bytes. bytes) (λ bytes. length bytes ≡ size) (λ bytes. cond (ltb (length bytes) size) (Err (fault bytes)) (Ok (take size bytes, drop size bytes)))
+piece_by fault size = record {
+  takes = λ bytes x rest fits e. piece_taken (fault bytes) size bytes x rest e;
   again = λ x rest len.
       let long : ltb (length (x ++ rest)) size ≡ false = le-ltb _ _ (omega (arith, length-append x rest)) in
       rw (long, take_at x rest size len, drop_at x rest size len) refl;
 }
+
+pub piece_exact : (size : ℕ) → IsExact (λ bytes. bytes) (λ bytes. length bytes ≡ size) (piece_at size)
+piece_exact = piece_by (λ bytes. Short)
 
 -- ---- fields
 

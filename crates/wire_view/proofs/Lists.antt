@@ -75,7 +75,7 @@ made_of : (a b c : ℕ) (t : Tx) → a ≡ t.client → b ≡ t.number → c ≡
 unfolding make_tx
 made_of a b c t e f g = ap (λ (x : ℕ). make_tx x b c) e ∙ ap (λ (x : ℕ). make_tx t.client x c) f ∙ ap (λ (x : ℕ). make_tx t.client t.number x) g
 
-joined : (a b c d : List ℕ) → a ≡ b → c ≡ d → a ++ c ≡ b ++ d
+pub joined : (a b c d : List ℕ) → a ≡ b → c ≡ d → a ++ c ≡ b ++ d
 joined a b c d e f = ap (λ (x : List ℕ). x ++ c) e ∙ ap (λ (x : List ℕ). b ++ x) f
 
 consed : (a b : Tx) (c d : List Tx) → a ≡ b → c ≡ d → a ∷ c ≡ b ∷ d

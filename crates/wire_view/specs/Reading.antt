@@ -18,16 +18,17 @@ use Rattle.wire_view.specs.declared.fault.WireFault.TheVariants.{Short, Kind, Co
 abbrev pub WireReader : Type 0 → Type 0
 WireReader A = List ℕ → Result (A × List ℕ) WireFault
 
-abbrev pub go_on : {A B : Type 0} → Result (A × List ℕ) WireFault → (A → List ℕ → Result (B × List ℕ) WireFault) → Result (B × List ℕ) WireFault
+-- one reader after another, whatever their faults are
+abbrev pub go_on : {A B E : Type 0} → Result (A × List ℕ) E → (A → List ℕ → Result (B × List ℕ) E) → Result (B × List ℕ) E
 go_on (Ok x) next = next x.0 x.1
 go_on (Err fault) next = Err fault
 
--- one reader, and then another, which gets what the first one read
+-- the second gets what the first one read
 infixl 10 ◌>>=◌
-abbrev pub ◌>>=◌ : {A B : Type 0} → (List ℕ → Result (A × List ℕ) WireFault) → (A → List ℕ → Result (B × List ℕ) WireFault) → List ℕ → Result (B × List ℕ) WireFault
+abbrev pub ◌>>=◌ : {A B E : Type 0} → (List ℕ → Result (A × List ℕ) E) → (A → List ℕ → Result (B × List ℕ) E) → List ℕ → Result (B × List ℕ) E
 (first >>= next) bytes = go_on (first bytes) next
 
-abbrev pub give : {A : Type 0} → A → List ℕ → Result (A × List ℕ) WireFault
+abbrev pub give : {A E : Type 0} → A → List ℕ → Result (A × List ℕ) E
 give x bytes = Ok (x, bytes)
 
 -- The result of a function, through `view`, is what reading gives.

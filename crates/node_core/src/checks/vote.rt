@@ -1,4 +1,4 @@
-ghost use Rattle.std.specs.Prelude.{◌≡◌, ◌≤◌, ◌<◌, false, IfOk, option_map};
+ghost use Rattle.std.specs.Prelude.{◌≡◌, ◌≤◌, ◌<◌, false, is_some, IfOk, OnErr, IsTrue, option_map};
 ghost use Rattle.node_core.specs.Vote.{vote_is_sealed, carries_fitly, vote_reason, carried_misfits, voted_reason, has_voted};
 
 use crate::Reason;
@@ -79,6 +79,7 @@ pub fn owned_vote_reason(
     requires { option_map (λ sealed. sealed.now) order ≡ vote.now.order }
     ensures value { IfOk result (λ reason. reason ≡ voted_reason state.now from vote.now.vote vote.now.order) }
     ensures fresh { IfOk result (λ reason. reason ≡ Reason.Done → has_voted state.now.boxes vote.now.vote.view vote.now.vote.block from ≡ false) }
+    ensures memory { OnErr result (IsTrue (is_some vote.now.order)) }
 {
     if carried_misfits(state, vote, order)? {
         return Ok(Reason::Misfit);
@@ -96,7 +97,8 @@ fn carried_misfits(
     order: Option<&SealedOrder>,
 ) -> Result<bool, NoMemory>
     requires { option_map (λ sealed. sealed.now) order ≡ vote.now.order }
-    ensures { IfOk result (λ misfits. misfits ≡ carried_misfits state.now vote.now.vote vote.now.order) }
+    ensures value { IfOk result (λ misfits. misfits ≡ carried_misfits state.now vote.now.vote vote.now.order) }
+    ensures memory { OnErr result (IsTrue (is_some vote.now.order)) }
 {
     match order {
         Some(sealed) => Ok(!state.order_fits(&vote.block(), &sealed.order)?),

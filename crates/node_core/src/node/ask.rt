@@ -1,8 +1,9 @@
 //! Ask: the node draws its local order, and sends it to the leader.
-ghost use Rattle.std.specs.Prelude.{◌≡◌, IfOk};
+ghost use Rattle.std.specs.Prelude.{◌≡◌, IfOk, OnErr, IsTrue};
 ghost use Rattle.node_core.specs.State.{KeepsSeat};
-ghost use Rattle.node_core.specs.Ask.{on_ask, ask_done};
+ghost use Rattle.node_core.specs.Ask.{on_ask, ask_reason, ask_done};
 ghost use Rattle.node_core.specs.Judged.{IsJudged, IsInRun};
+ghost use Rattle.node_core.specs.Memory.{fetches};
 
 use super::Node;
 use crate::checks::ask_reason;
@@ -19,7 +20,8 @@ impl<S: Sealer> Node<S> {
         from: u32,
         call: CallView<'a>,
     ) -> Result<Judged<'a>, NoMemory>
-        ensures { IfOk result (IsJudged (S.gives self.now.sealer) self.now.state (on_ask (C.meaning checker.now) (S.gives self.now.sealer) self.now.state from call.entry)) }
+        ensures judged { IfOk result (IsJudged (S.gives self.now.sealer) self.now.state (on_ask (C.meaning checker.now) (S.gives self.now.sealer) self.now.state from call.entry)) }
+        ensures memory { OnErr result (IsTrue (fetches (ask_reason (C.meaning checker.now) self.now.state.known from call.entry))) }
     {
         match ask_reason(&self.state, checker, from, &call) {
             Reason::Done => Ok(Judged::Active(Accepted::Ask { from, call })),

@@ -1,9 +1,10 @@
 //! Fetch and Give: a stored block is sent to the replica that asks, and a received block is stored.
-ghost use Rattle.std.specs.Prelude.{◌≡◌, ◌≤◌, ◌<◌, [], true, IfOk};
-ghost use Rattle.block_store.specs.Store.{is_stored};
+ghost use Rattle.std.specs.Prelude.{◌≡◌, ◌≤◌, ◌<◌, [], true, is_some, IfOk, OnErr, IsTrue};
+ghost use Rattle.block_store.specs.Store.{block_at, is_stored};
 ghost use Rattle.node_core.specs.State.{KeepsSeat};
-ghost use Rattle.node_core.specs.Give.{on_fetch, on_give, given_reason, given_for, give_done};
+ghost use Rattle.node_core.specs.Give.{on_fetch, on_give, give_reason, given_reason, given_for, give_done};
 ghost use Rattle.node_core.specs.Judged.{IsJudged, IsStorable};
+ghost use Rattle.node_core.specs.Memory.{copies_or_fetches};
 
 use super::{Node, name_of};
 use crate::checks::{give_reason, given_block_reason};
@@ -17,6 +18,7 @@ impl<S: Sealer> Node<S> {
     pub(super) fn fetch(&self, from: u32, block: &Digest) -> Result<Turned, NoMemory>
         ensures ok { IfOk result (λ t. on_fetch self.now.state from block.now ≡ record { reported = t; state = self.now.state }) }
         ensures unsealed { IfOk result (λ t. t.sealed ≡ []) }
+        ensures memory { OnErr result (IsTrue (is_some (block_at self.now.state.known.store block.now))) }
     {
         match self.state.block(block) {
             Some(block) => self.send_give(from, block),
@@ -30,7 +32,8 @@ impl<S: Sealer> Node<S> {
         from: u32,
         view: &BlockView<'a>,
     ) -> Result<Judged<'a>, NoMemory>
-        ensures { IfOk result (IsJudged (S.gives self.now.sealer) self.now.state (on_give (C.meaning checker.now) self.now.state from view.now)) }
+        ensures judged { IfOk result (IsJudged (S.gives self.now.sealer) self.now.state (on_give (C.meaning checker.now) self.now.state from view.now)) }
+        ensures memory { OnErr result (IsTrue (copies_or_fetches (give_reason (C.meaning checker.now) self.now.state.known view.now))) }
     {
         match give_reason(&self.state, checker, view) {
             Reason::Done => self.judge_given_block(checker, view),

@@ -1,6 +1,7 @@
 //! Judges an event by the tests of the turn table, and leaves the node as it is.
-ghost use Rattle.std.specs.Prelude.{IfOk, OnOk};
+ghost use Rattle.std.specs.Prelude.{IfOk, OnOk, OnErr, IsTrue};
 ghost use Rattle.node_core.specs.Judged.{IsJudged};
+ghost use Rattle.node_core.specs.Memory.{judging_takes_memory, message_takes_memory};
 ghost use Rattle.node_core.specs.Readable.{IsReadable};
 ghost use Rattle.node_core.specs.Turn.{turn_of, on_arrived, on_message, on_tick};
 
@@ -12,6 +13,7 @@ use seq_base::{NoMemory, Tx};
 use wire_view::{MessageView, read};
 
 impl<S: Sealer> Node<S> {
+    #[tactic(auto, unfolding(crate::specs::Memory::judging_takes_memory))]
     pub(super) fn judge<'a, C: Checker>(
         &self,
         checker: &C,
@@ -19,6 +21,7 @@ impl<S: Sealer> Node<S> {
     ) -> Result<Judged<'a>, NoMemory>
         ensures judged { IfOk result (IsJudged (S.gives self.now.sealer) self.now.state (turn_of (C.meaning checker.now) (S.gives self.now.sealer) self.now.state event.now)) }
         ensures readable { OnOk result (IsReadable event.now) }
+        ensures memory { OnErr result (IsTrue (judging_takes_memory (C.meaning checker.now) self.now.state.known event.now)) }
     {
         match event {
             Event::Arrived(list) => Ok(self.judge_arrival(list.as_slice())),
@@ -58,7 +61,8 @@ impl<S: Sealer> Node<S> {
         from: u32,
         message: MessageView<'a>,
     ) -> Result<Judged<'a>, NoMemory>
-        ensures { IfOk result (IsJudged (S.gives self.now.sealer) self.now.state (on_message (C.meaning checker.now) (S.gives self.now.sealer) self.now.state from message.entry)) }
+        ensures judged { IfOk result (IsJudged (S.gives self.now.sealer) self.now.state (on_message (C.meaning checker.now) (S.gives self.now.sealer) self.now.state from message.entry)) }
+        ensures memory { OnErr result (IsTrue (message_takes_memory (C.meaning checker.now) self.now.state.known from message.entry)) }
     {
         match message {
             MessageView::NewView(call) => self.judge_new_view(checker, from, call),

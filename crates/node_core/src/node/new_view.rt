@@ -1,9 +1,10 @@
 //! NewView: a replica calls for a view. With the calls of a quorum the leader asks for local orders.
-ghost use Rattle.std.specs.Prelude.{◌≡◌, ◌≤◌, IfOk};
+ghost use Rattle.std.specs.Prelude.{◌≡◌, ◌≤◌, IfOk, OnErr, IsTrue};
 ghost use Rattle.node_core.specs.State.{KeepsSeat, knowing};
 ghost use Rattle.node_core.specs.See.{asked_for};
-ghost use Rattle.node_core.specs.NewView.{on_new_view, new_view_done, asks};
+ghost use Rattle.node_core.specs.NewView.{on_new_view, new_view_reason, new_view_done, asks};
 ghost use Rattle.node_core.specs.Judged.{IsJudged, IsInRun};
+ghost use Rattle.node_core.specs.Memory.{fetches};
 
 use super::Node;
 use crate::checks::new_view_reason;
@@ -20,7 +21,8 @@ impl<S: Sealer> Node<S> {
         from: u32,
         call: CallView<'a>,
     ) -> Result<Judged<'a>, NoMemory>
-        ensures { IfOk result (IsJudged (S.gives self.now.sealer) self.now.state (on_new_view (C.meaning checker.now) (S.gives self.now.sealer) self.now.state from call.entry)) }
+        ensures judged { IfOk result (IsJudged (S.gives self.now.sealer) self.now.state (on_new_view (C.meaning checker.now) (S.gives self.now.sealer) self.now.state from call.entry)) }
+        ensures memory { OnErr result (IsTrue (fetches (new_view_reason (C.meaning checker.now) self.now.state.known from call.entry))) }
     {
         match new_view_reason(&self.state, checker, from, &call) {
             Reason::Done => Ok(Judged::Active(Accepted::NewView { from, call })),

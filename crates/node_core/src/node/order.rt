@@ -1,8 +1,9 @@
 //! Order: the leader keeps it. With the orders of a quorum it proposes a block.
-ghost use Rattle.std.specs.Prelude.{◌≡◌, ◌≢◌, IfOk};
+ghost use Rattle.std.specs.Prelude.{◌≡◌, ◌≢◌, IfOk, OnErr, IsTrue};
 ghost use Rattle.node_core.specs.State.{KeepsSeat};
-ghost use Rattle.node_core.specs.Order.{on_order, kept_order_reason, kept_order_for, order_done, proposes_if};
+ghost use Rattle.node_core.specs.Order.{on_order, order_reason, kept_order_reason, kept_order_for, order_done, proposes_if};
 ghost use Rattle.node_core.specs.Judged.{IsJudged};
+ghost use Rattle.node_core.specs.Memory.{copies};
 
 use super::Node;
 use crate::checks::{order_reason, owned_order_reason};
@@ -19,7 +20,8 @@ impl<S: Sealer> Node<S> {
         from: u32,
         order: &OrderView<'a>,
     ) -> Result<Judged<'a>, NoMemory>
-        ensures { IfOk result (IsJudged (S.gives self.now.sealer) self.now.state (on_order (C.meaning checker.now) (S.gives self.now.sealer) self.now.state from order.now)) }
+        ensures judged { IfOk result (IsJudged (S.gives self.now.sealer) self.now.state (on_order (C.meaning checker.now) (S.gives self.now.sealer) self.now.state from order.now)) }
+        ensures memory { OnErr result (IsTrue (copies (order_reason (C.meaning checker.now) self.now.state.known from order.now))) }
     {
         match order_reason(&self.state, checker, from, order) {
             Reason::Done => self.judge_owned_order(from, order),

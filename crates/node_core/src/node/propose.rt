@@ -1,9 +1,10 @@
 //! Propose: the node stores the block, and votes for it.
-ghost use Rattle.std.specs.Prelude.{◌≡◌, ◌≤◌, ◌<◌, ◌+◌, true, IfOk};
+ghost use Rattle.std.specs.Prelude.{◌≡◌, ◌≤◌, ◌<◌, ◌+◌, true, IfOk, OnErr, IsTrue};
 ghost use Rattle.block_store.specs.Store.{is_stored};
 ghost use Rattle.node_core.specs.State.{KeepsSeat};
-ghost use Rattle.node_core.specs.Propose.{on_propose, proposed_reason, proposed_for, propose_done, voted};
+ghost use Rattle.node_core.specs.Propose.{on_propose, propose_reason, proposed_reason, proposed_for, propose_done, voted};
 ghost use Rattle.node_core.specs.Judged.{IsJudged, IsStorable};
+ghost use Rattle.node_core.specs.Memory.{copies_or_fetches};
 
 use super::{Node, name_of};
 use crate::checks::{propose_reason, proposed_block_reason};
@@ -20,7 +21,8 @@ impl<S: Sealer> Node<S> {
         from: u32,
         propose: &ProposeView<'a>,
     ) -> Result<Judged<'a>, NoMemory>
-        ensures { IfOk result (IsJudged (S.gives self.now.sealer) self.now.state (on_propose (C.meaning checker.now) (S.gives self.now.sealer) self.now.state from propose.now)) }
+        ensures judged { IfOk result (IsJudged (S.gives self.now.sealer) self.now.state (on_propose (C.meaning checker.now) (S.gives self.now.sealer) self.now.state from propose.now)) }
+        ensures memory { OnErr result (IsTrue (copies_or_fetches (propose_reason (C.meaning checker.now) self.now.state.known from propose.now))) }
     {
         let block = propose.block();
         match propose_reason(&self.state, checker, from, propose) {

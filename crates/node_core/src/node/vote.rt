@@ -1,10 +1,11 @@
 //! Vote: the next leader keeps it. The votes of a quorum certify their block.
-ghost use Rattle.std.specs.Prelude.{◌≡◌, ◌≤◌, ◌<◌, ◌+◌, IfOk, IfSome};
+ghost use Rattle.std.specs.Prelude.{◌≡◌, ◌≤◌, ◌<◌, ◌+◌, is_some, IfOk, IfSome, OnErr, IsTrue};
 ghost use Rattle.quorum_cert.specs.Boxes.{bare};
 ghost use Rattle.node_core.specs.State.{KeepsSeat, knowing};
 ghost use Rattle.node_core.specs.Order.{proposes};
-ghost use Rattle.node_core.specs.Vote.{on_vote, voted_reason, voted_for, vote_done, certified, certified_if, next_block, proposing_next};
+ghost use Rattle.node_core.specs.Vote.{on_vote, vote_reason, voted_reason, voted_for, vote_done, certified, certified_if, next_block, proposing_next};
 ghost use Rattle.node_core.specs.Judged.{IsJudged};
+ghost use Rattle.node_core.specs.Memory.{vote_takes_memory};
 
 use super::Node;
 use crate::checks::{owned_vote_reason, vote_reason};
@@ -23,7 +24,8 @@ impl<S: Sealer> Node<S> {
         from: u32,
         vote: VoteView<'a>,
     ) -> Result<Judged<'a>, NoMemory>
-        ensures { IfOk result (IsJudged (S.gives self.now.sealer) self.now.state (on_vote (C.meaning checker.now) (S.gives self.now.sealer) self.now.state from vote.entry)) }
+        ensures judged { IfOk result (IsJudged (S.gives self.now.sealer) self.now.state (on_vote (C.meaning checker.now) (S.gives self.now.sealer) self.now.state from vote.entry)) }
+        ensures memory { OnErr result (IsTrue (vote_takes_memory (vote_reason (C.meaning checker.now) self.now.state.known from vote.entry) vote.entry.order)) }
     {
         match vote_reason(&self.state, checker, from, &vote) {
             Reason::Done => self.judge_owned_vote(from, vote),
@@ -36,7 +38,8 @@ impl<S: Sealer> Node<S> {
         requires within { vote.vote.view ≤ self.now.state.known.views }
         requires own { vote.vote.replica ≡ from }
         requires higher { self.now.state.known.high.view < vote.vote.view }
-        ensures { IfOk result (IsJudged (S.gives self.now.sealer) self.now.state (voted_for (S.gives self.now.sealer) self.now.state vote.entry (voted_reason self.now.state.known from vote.entry.vote vote.entry.order))) }
+        ensures judged { IfOk result (IsJudged (S.gives self.now.sealer) self.now.state (voted_for (S.gives self.now.sealer) self.now.state vote.entry (voted_reason self.now.state.known from vote.entry.vote vote.entry.order))) }
+        ensures memory { OnErr result (IsTrue (is_some vote.entry.order)) }
     {
         let order = owned_order(self.alloc, &vote)?;
         match owned_vote_reason(&self.state, from, &vote, order.as_ref())? {
@@ -118,7 +121,8 @@ fn owned_vote(alloc: Global, view: &VoteView<'_>) -> Result<CertVote, NoMemory>
 
 /// The order that a vote carries.
 fn owned_order(alloc: Global, view: &VoteView<'_>) -> Result<Option<SealedOrder>, NoMemory>
-    ensures { IfOk result (λ order. order ≡ view.now.order) }
+    ensures value { IfOk result (λ order. order ≡ view.now.order) }
+    ensures memory { OnErr result (IsTrue (is_some view.now.order)) }
 {
     match view.order() {
         Some(order) => Ok(Some(order.own(alloc)?)),

@@ -3,11 +3,11 @@ use Rattle.std.specs.Prelude.{◌||◌}
 use Rattle.std.specs.List.{list_any}
 use Rattle.std.proofs.lemmas.List.{map_more, take_all}
 use Rattle.std.proofs.lemmas.List.Folds.{list_any-append}
+use Rattle.seq_base.proofs.Points.{or_false}
 use Rattle.chain_state.specs.declared.stepping.Stepped.{Stepped}
 use Rattle.chain_state.specs.Shown.{shown}
 use Rattle.chain_state.specs.Standings.{Stage, stage_waits}
 use Rattle.chain_state.specs.Stepping.{placed}
-use Rattle.chain_state.proofs.ZippedLists.{or_false}
 use Rattle.chain_state.proofs.stepping.waiting_set.Goals as goal
 
 pub loop-step-preserved : goal.loop-step-preserved

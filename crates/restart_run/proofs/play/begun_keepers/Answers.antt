@@ -1,12 +1,13 @@
 use Rattle.std.proofs.Common.{◌≤◌, ◌<◌, ◌+◌, ℕ, List, [], ◌∷◌, get_or, length, ap, sym, subst, ◌∙◌, arith, rules}
 use Rattle.std.specs.Prelude.{All}
 use Rattle.std.proofs.lemmas.List.Elements.{All-append, All-cons, All-nil}
+use Rattle.std.proofs.lemmas.List.{length_push}
+use Rattle.std.proofs.lemmas.List.Edits.{length-remove}
 use Rattle.replay_run.specs.Kept.{meant}
 use Rattle.replay_run.specs.Open.{IsOpen}
 use Rattle.replay_run.specs.declared.keepers.Keeping.{Keeping}
 use Rattle.replica_seat.proofs.Later.{all_left}
 use Rattle.restart_run.proofs.KeeperStart.{begun_more, first_faults, later_faults, less_begun}
-use Rattle.restart_run.proofs.Places.{pushed_length, removed_length}
 use Rattle.restart_run.specs.New.{IsNew}
 use Rattle.restart_run.proofs.play.begun_keepers.Goals as goal
 
@@ -35,8 +36,8 @@ loop-replica-preserved g c =
     let at = c.loop-replica.replica in
     let some : 0 < length keepers = (let left = invariant.left in omega (arith, left, c.loop-replica-test.true)) in
     record {
-      done = ap length put ∙ pushed_length begun keeping ∙ ap (λ (n : ℕ). n + 1) invariant.done;
-      left = (let fewer = removed_length keepers some in let len = ap length c.remove.ensures.items in let left = invariant.left in omega (arith, fewer, len, left));
+      done = ap length put ∙ length_push begun keeping ∙ ap (λ (n : ℕ). n + 1) invariant.done;
+      left = (let fewer = length-remove keepers 0 some in let len = ap length c.remove.ensures.items in let left = invariant.left in omega (arith, fewer, len, left));
       new = all_left (IsNew m k.begun) keepers c.remove.new.self.items c.remove.ensures.items invariant.new;
       opened = subst (λ (xs : List (Keeping _)). All (IsOpen k.begun) xs) (sym put)
           (All-append (IsOpen k.begun) begun (keeping ∷ []) invariant.opened (All-cons (IsOpen k.begun) keeping [] c.in_ok-keeping.ensures.open (All-nil (IsOpen k.begun))));

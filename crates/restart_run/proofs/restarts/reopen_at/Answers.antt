@@ -1,12 +1,12 @@
 use Rattle.std.proofs.Common.{◌≡◌, ◌≤◌, ◌<◌, List, Some, length, ap, sym, subst, ◌∙◌, arith}
 use Rattle.std.specs.Prelude.{slice_get, slice_set}
 use Rattle.std.proofs.lemmas.List.Elements.{All-set}
-use Rattle.std.proofs.lemmas.Option.{slice_get-get_or}
+use Rattle.std.proofs.lemmas.Option.{same_Some, slice_get-get_or}
 use Rattle.replay_run.specs.Kept.{HoldsLogOf, meant}
 use Rattle.replay_run.specs.Open.{IsOpen}
 use Rattle.replay_run.specs.declared.keepers.Keeping.{Keeping}
 use Rattle.replay_run.proofs.LoggedEvents.{fault_there}
-use Rattle.restart_run.proofs.Places.{if_both, on_ok, some_is}
+use Rattle.restart_run.proofs.Places.{if_both, on_ok}
 use Rattle.restart_run.proofs.restarts.reopen_at.Goals as goal
 
 pub invariant_of-keepers : goal.invariant_of-keepers
@@ -21,7 +21,7 @@ returns-clause-again g c l r k here kept gives capacity =
     let old = c.index_mut-keeping.result.now in
     let after = c.reopened.new.keeping in
     let within : c.args.replica < length items = omega (arith, c.len.ensures, c.keepers.inside.keepers.ok.0) in
-    let same : k ≡ old = some_is k old (sym here ∙ ap (λ (xs : List (Keeping _)). slice_get xs c.args.replica) (sym c.keepers.view_is)
+    let same : k ≡ old = same_Some k old (sym here ∙ ap (λ (xs : List (Keeping _)). slice_get xs c.args.replica) (sym c.keepers.view_is)
     ∙ slice_get-get_or items c.args.replica old within ∙ ap Some (sym c.index_mut-keeping.ensures.value)) in
     let was = subst (λ (x : Keeping _). HoldsLogOf m (g.C.Checker.meaning c.args.checker.now) c.args.plan.now l c.args.replica x.keeper r) same kept in
     if_both c.reopened.result _ _ _

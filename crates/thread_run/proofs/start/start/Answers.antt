@@ -13,7 +13,7 @@ use Rattle.replica_seat.specs.Seats.{Seated, meaning}
 use Rattle.thread_run.specs.Finishing.{column}
 use Rattle.thread_run.specs.Starting.{IsDealt, IsNewClient, drivers_from, pass_with, rows_in, workers_from}
 use Rattle.thread_run.proofs.InitialPasses.{all_below, rows_even}
-use Rattle.thread_run.proofs.InitialState.{counted, going, manned, seats_count}
+use Rattle.thread_run.proofs.InitialState.{begins, seats_count}
 use Rattle.thread_run.proofs.start.start.Goals as goal
 
 pub seats_of-requires-clause-replicas : goal.seats_of-requires-clause-replicas
@@ -62,32 +62,9 @@ workers_of-requires-clause-sends g c =
     ∙ length-map (range_with_len 0 c.n-n.result) (λ k. column k (rows_in c.in_ok-boxes.field-0.passes.items)) ∙ length-range_with_len 0 c.n-n.result ∙ c.n-n.ensures.value ∙ sym len in
     search rules
 
-pub returns-clause-manned : goal.returns-clause-manned
-returns-clause-manned g c =
-    manned c.args.plan.now _ (meaning g.S.Sealer.replica g.S.Sealer.gives)
-    (λ x. signer (g.S.Sealer.replica x) (g.S.Sealer.capacity x) (g.S.Sealer.gives x) (g.S.Sealer.made x)) c.args.sealers.items
-    c.in_ok-seats.seats.items c.in_ok-boxes.field-0.takes.items (rows_in c.in_ok-boxes.field-0.passes.items)
-    (let some = c.requires.rules.setting.replicas.some in omega (arith, some)) c.requires.places c.in_ok-seats.ensures
-    (c.in_ok-logs.ensures.count ∙ c.n-n.ensures.value)
-    (subst (λ (k : ℕ). All (λ (l : Log). l.parts ≡ k + 3) c.in_ok-logs.field-0.logs.items) (ap length c.as_slice-senders.ensures) c.in_ok-logs.ensures.parts)
-    (c.in_ok-boxes.ensures.count ∙ c.n-n.ensures.value)
-    (subst (λ (k : ℕ). All (λ (b : Box). b.senders ≡ k) c.in_ok-boxes.field-0.boxes.items) c.n-n.ensures.value c.in_ok-boxes.ensures.senders)
-    c.in_ok-boxes.ensures.takes
-    (subst (λ (k : ℕ). AllZip (IsDealt k) c.in_ok-boxes.field-0.boxes.items (rows_in c.in_ok-boxes.field-0.passes.items)) c.n-n.ensures.value c.in_ok-boxes.ensures.passes)
-    (subst (λ (l : List Log). AllZip (IsNewClient l) c.args.plan.now.clients c.in_ok-clients.clients.items) c.as_slice-2.ensures.value
-    (subst (λ (l : List Sender). AllZip (IsNewClient c.as_slice-2.result.now) l c.in_ok-clients.clients.items) c.as_slice-senders.ensures c.in_ok-clients.ensures.clients))
-    (c.in_ok-drivers.ensures ∙ ap (λ (l : List Arrival). drivers_from l 0 c.clients_of.new.mains.items) c.as_slice-3.ensures
-    ∙ ap (drivers_from c.args.plan.now.arrivals 0) (c.in_ok-clients.ensures.mains ∙ ap (map (pass_with 2)) c.as_slice-2.ensures.value))
-    (c.in_ok-workers.ensures
-    ∙ ap (λ (l : List (Known Tx)). workers_from 0 c.in_ok-seats.seats.items l c.in_ok-boxes.field-0.takes.items (rows_in c.in_ok-sends.sends.items)) c.in_ok-logs.ensures.own
-    ∙ ap (λ (l : List (List SendPass)). workers_from 0 c.in_ok-seats.seats.items (map (pass_with 1) c.in_ok-logs.field-0.logs.items) c.in_ok-boxes.field-0.takes.items l)
-    (c.in_ok-sends.ensures ∙ ap (λ (k : ℕ). map (λ j. column j (rows_in c.in_ok-boxes.field-0.passes.items)) (range_with_len 0 k)) c.n-n.ensures.value))
-    (c.in_ok-due.ensures ∙ ap (λ (l : List (Seated g.row.S.Denot)). due_of c.args.plan.now.setting.n c.args.plan.now.faulty (map (λ s. s.feed.txs) l)) c.as_slice.ensures.value)
-    refl
-
-pub returns-clause-counted : goal.returns-clause-counted
-returns-clause-counted g c =
-    counted c.args.plan.now _ (meaning g.S.Sealer.replica g.S.Sealer.gives)
+pub returns : goal.returns
+returns g c =
+    begins c.args.plan.now _ (meaning g.S.Sealer.replica g.S.Sealer.gives)
     (λ x. signer (g.S.Sealer.replica x) (g.S.Sealer.capacity x) (g.S.Sealer.gives x) (g.S.Sealer.made x)) c.args.sealers.items
     c.in_ok-seats.seats.items c.in_ok-boxes.field-0.takes.items (rows_in c.in_ok-boxes.field-0.passes.items)
     (let some = c.requires.rules.setting.replicas.some in omega (arith, some)) c.requires.places c.in_ok-seats.ensures
@@ -108,27 +85,3 @@ returns-clause-counted g c =
     (c.in_ok-due.ensures ∙ ap (λ (l : List (Seated g.row.S.Denot)). due_of c.args.plan.now.setting.n c.args.plan.now.faulty (map (λ s. s.feed.txs) l)) c.as_slice.ensures.value)
     refl
     refl
-
-pub returns-clause-going : goal.returns-clause-going
-returns-clause-going g c = λ fits gives capacity signers.
-    going c.args.plan.now _ (meaning g.S.Sealer.replica g.S.Sealer.gives)
-    (λ x. signer (g.S.Sealer.replica x) (g.S.Sealer.capacity x) (g.S.Sealer.gives x) (g.S.Sealer.made x)) c.args.sealers.items
-    c.in_ok-seats.seats.items c.in_ok-boxes.field-0.takes.items (rows_in c.in_ok-boxes.field-0.passes.items)
-    (let some = c.requires.rules.setting.replicas.some in omega (arith, some)) c.requires.places c.in_ok-seats.ensures
-    (c.in_ok-logs.ensures.count ∙ c.n-n.ensures.value)
-    (subst (λ (k : ℕ). All (λ (l : Log). l.parts ≡ k + 3) c.in_ok-logs.field-0.logs.items) (ap length c.as_slice-senders.ensures) c.in_ok-logs.ensures.parts)
-    (c.in_ok-boxes.ensures.count ∙ c.n-n.ensures.value)
-    (subst (λ (k : ℕ). All (λ (b : Box). b.senders ≡ k) c.in_ok-boxes.field-0.boxes.items) c.n-n.ensures.value c.in_ok-boxes.ensures.senders)
-    c.in_ok-boxes.ensures.takes
-    (subst (λ (k : ℕ). AllZip (IsDealt k) c.in_ok-boxes.field-0.boxes.items (rows_in c.in_ok-boxes.field-0.passes.items)) c.n-n.ensures.value c.in_ok-boxes.ensures.passes)
-    (subst (λ (l : List Log). AllZip (IsNewClient l) c.args.plan.now.clients c.in_ok-clients.clients.items) c.as_slice-2.ensures.value
-    (subst (λ (l : List Sender). AllZip (IsNewClient c.as_slice-2.result.now) l c.in_ok-clients.clients.items) c.as_slice-senders.ensures c.in_ok-clients.ensures.clients))
-    (c.in_ok-drivers.ensures ∙ ap (λ (l : List Arrival). drivers_from l 0 c.clients_of.new.mains.items) c.as_slice-3.ensures
-    ∙ ap (drivers_from c.args.plan.now.arrivals 0) (c.in_ok-clients.ensures.mains ∙ ap (map (pass_with 2)) c.as_slice-2.ensures.value))
-    (c.in_ok-workers.ensures
-    ∙ ap (λ (l : List (Known Tx)). workers_from 0 c.in_ok-seats.seats.items l c.in_ok-boxes.field-0.takes.items (rows_in c.in_ok-sends.sends.items)) c.in_ok-logs.ensures.own
-    ∙ ap (λ (l : List (List SendPass)). workers_from 0 c.in_ok-seats.seats.items (map (pass_with 1) c.in_ok-logs.field-0.logs.items) c.in_ok-boxes.field-0.takes.items l)
-    (c.in_ok-sends.ensures ∙ ap (λ (k : ℕ). map (λ j. column j (rows_in c.in_ok-boxes.field-0.passes.items)) (range_with_len 0 k)) c.n-n.ensures.value))
-    (c.in_ok-due.ensures ∙ ap (λ (l : List (Seated g.row.S.Denot)). due_of c.args.plan.now.setting.n c.args.plan.now.faulty (map (λ s. s.feed.txs) l)) c.as_slice.ensures.value)
-    refl
-    fits gives capacity signers

@@ -1,6 +1,7 @@
 use Rattle.std.proofs.Common.{◌≡◌, ℕ, true, List, [], Result, Ok, ap, ◌∙◌}
 use Rattle.std.proofs.lemmas.Result.{err_from_is_err_and}
 use Rattle.seq_base.specs.declared.tx.Tx.{Tx}
+use Rattle.wire_view.specs.Reading.{go_on, ◌>>=◌, give}
 use Rattle.trace_form.specs.declared.account.Account.{Account}
 use Rattle.trace_form.specs.declared.contents.Contents.{Contents}
 use Rattle.trace_form.specs.declared.fault.Stop.{Stop}
@@ -11,7 +12,7 @@ use Rattle.trace_form.specs.Form.{contents_at}
 use Rattle.trace_form.specs.Gives.{Blames}
 use Rattle.trace_form.specs.Lists.{list_at}
 use Rattle.trace_form.specs.Opening.{opening_at}
-use Rattle.trace_form.specs.Reading.{go_on, ◌>>=◌, give, each_at}
+use Rattle.trace_form.specs.Reading.{each_at}
 use Rattle.trace_form.proofs.contents.read_contents.Goals as goal
 
 abbrev lists_of : Opening → List ℕ → Result (List (List Tx) × List ℕ) ℕ

@@ -10,16 +10,16 @@ use std::marker::Model;
 
 /// An event that is prepared, with its record. An event whose turn changes nothing has none. The running digests of the log
 /// are those before it and after it.
-pub(crate) struct Ready {
+pub(crate) struct Prepared {
     event: Event,
     record: Option<Vec<u8>>,
     before: [u8; 32],
     after: [u8; 32],
 }
 
-impl Drop for Ready {
+impl Drop for Prepared {
     fn drop(self) {
-        let Ready {
+        let Prepared {
             event: _,
             record: _,
             before: _,
@@ -28,7 +28,7 @@ impl Drop for Ready {
     }
 }
 
-impl Model for Ready {
+impl Model for Prepared {
     ghost use Rattle.std.specs.Prelude.{◌≡◌};
     ghost use Rattle.std.specs.Option.{ForSome, is_some};
     ghost use Rattle.durable_node.specs.Log.{CanBeKept, record_of};
@@ -42,23 +42,23 @@ impl Model for Ready {
         × (r.after ≡ digest_past (record { event = r.event; has_record = is_some r.record; digest = r.before })) };
 }
 
-impl Ready {
+impl Prepared {
     /// Makes the record of an event that fits one.
     pub(crate) fn with_record(
         alloc: Global,
         digest: &[u8; 32],
         event: Event,
-    ) -> Result<Ready, NoMemory>
+    ) -> Result<Prepared, NoMemory>
         requires { IsShort event }
-        ensures ready { IfOk result (λ ready. ready ≡ record { event = event; has_record = true; digest = digest.now }) }
-        ensures can { IfOk result (λ ready. CanBeKept event) }
+        ensures prepared { IfOk result (λ prepared. prepared ≡ record { event = event; has_record = true; digest = digest.now }) }
+        ensures can { IfOk result (λ prepared. CanBeKept event) }
     {
         let Record {
             bytes,
             digest: after,
         } = record_of(alloc, digest, &event)?;
         let before = *digest;
-        Ok(Ready {
+        Ok(Prepared {
             event,
             record: Some(bytes),
             before,
@@ -67,12 +67,12 @@ impl Ready {
     }
 
     /// An event whose turn changes nothing.
-    pub(crate) fn without_record(digest: &[u8; 32], event: Event) -> Ready
+    pub(crate) fn without_record(digest: &[u8; 32], event: Event) -> Prepared
         ensures { result ≡ record { event = event; has_record = false; digest = digest.now } }
     {
         let before = *digest;
         let after = *digest;
-        Ready {
+        Prepared {
             event,
             record: None,
             before,
