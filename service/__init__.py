@@ -1,7 +1,6 @@
-"""A small host for the proved core: replicas as processes, with sockets, durable logs and a
-pacemaker.
+"""Tools for a cluster on one machine, whose replicas are processes of `themisd` (`host/`): they make,
+start and close it, submit transactions, audit what happened, break things, and measure.
 
-No proof covers this package. It owes the core what the start of `bindings/c/themis.h` lists: each
-event is durable before its turn, one process uses a log, and a key is used by one replica. Python
-3.11 and its standard library are all it needs, next to the library `libthemis.so`.
+No proof covers this package. Python 3.11 and its standard library are all it needs, next to the
+library `libthemis.so`.
 """

@@ -16,7 +16,7 @@ from typing import Any
 
 from service import core, log, wire
 from service.config import Setup
-from service.core import Arrived, Core, Delivered, Event, Role, Tx, tx_of_text
+from service.core import Arrived, Core, Delivered, Event, Reason, Role, Tx, tx_of_text
 from service.status import Exit, ServiceError
 from service.wire import Message
 
@@ -46,7 +46,7 @@ class Account:
     def accepted(self) -> Iterator[bytes]:
         """The messages that the core accepted, so that their seals fit."""
         for entry in self.entries:
-            if isinstance(entry.event, Delivered) and entry.reason == core.DONE:
+            if isinstance(entry.event, Delivered) and entry.reason == Reason.DONE:
                 yield entry.event.data
 
 
@@ -91,13 +91,17 @@ def read(setup: Setup, text: str) -> Account:
         first, *events, last = map(json.loads, text.splitlines())
         if first != {"replica": setup.me, "session": setup.cluster.digest().hex()}:
             raise ValueError("it is another replica's, or of another session")
-        for it in events:
-            _read_turn(account, it)
-        account.view, account.commit = int(last["view"]), int(last["commit"])
-        account.batches = [[tx_of_text(tx) for tx in it.split()] for it in last["batches"]]
+        _read_lines(account, events, last)
     except (ValueError, KeyError, TypeError, IndexError) as fault:
         raise ServiceError(Exit.LOG_REFUSED, f"no whole account: {fault}") from fault
     return account
+
+
+def _read_lines(account: Account, events: list[dict[str, Any]], last: dict[str, Any]) -> None:
+    for it in events:
+        _read_turn(account, it)
+    account.view, account.commit = int(last["view"]), int(last["commit"])
+    account.batches = [[tx_of_text(tx) for tx in it.split()] for it in last["batches"]]
 
 
 def _read_turn(account: Account, line: dict[str, Any]) -> None:
@@ -116,6 +120,36 @@ def _note(account: Account, event: Event, reason: int, sealed: list[bytes]) -> N
         account.arrivals += event.txs
     account.statements += sealed
     account.entries.append(Entry(event, reason, len(account.arrivals), sealed))
+
+
+@dataclass(frozen=True)
+class SessionAccount:
+    """The account of one of many sessions, with what the replica says of its place among them."""
+
+    account: Account
+    first: int                      # the position of its first batch
+    digest: str                     # chains all batches before it
+    keys: list[str | None]          # public keys by replica; None: it sat the session out
+    end: int | None                 # the position after its last batch, where it has ended
+    end_digest: str | None
+
+
+def read_of_many(text: str, replica: int, cluster: bytes, session: int) -> SessionAccount:
+    """The account of a session as `themisd account --session` prints it; ServiceError where it is
+    none of this replica, cluster and session, or not the whole one."""
+    account = Account(replica)
+    try:
+        first, *events, last = map(json.loads, text.splitlines())
+        whose = {"replica": replica, "cluster": cluster.hex(), "session": session}
+        if any(first[key] != value for key, value in whose.items()):
+            raise ValueError("it is another replica's, or of another session or cluster")
+        _read_lines(account, events, last)
+        keys = [None if key is None else str(key) for key in first["keys"]]
+        end, end_digest = last.get("end"), last.get("end_digest")
+        return SessionAccount(account, int(first["first"]), str(first["digest"]), keys, end,
+                              end_digest)
+    except (ValueError, KeyError, TypeError, IndexError, AttributeError) as fault:
+        raise ServiceError(Exit.LOG_REFUSED, f"no whole account: {fault}") from fault
 
 
 @dataclass(frozen=True)

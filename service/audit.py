@@ -1,7 +1,15 @@
-"""Checks what happened in a session, from the logs of its replicas.
+"""Checks what happened in a session, from the logs or accounts of its replicas.
 
-usage: python3 -m service.audit FOLDER [--faulty REPLICA ..] [--settled] [--session N]
+usage: python3 -m service.audit FOLDER [--watch]
+       python3 -m service.audit FOLDER [--faulty REPLICA ..] [--settled] [--session N]
                                 [--trace FILE]
+
+Where sessions follow one another, each that has ended is audited from the accounts that the
+replicas have exported, while later ones run (`service/chain.py`); --watch goes on with that. What
+was found is in FOLDER/audits. FOLDER may also be one into which an auditor has put the operators'
+cluster.toml and the accounts that they sent.
+
+The second form audits one session whose replicas are stopped:
 
 1. The proved audit checks a trace of all turns, by the cluster's setting, views, height and keys:
    each honest replica conforms to the protocol, no seal is forged, and no two blocks have the same
@@ -29,12 +37,13 @@ from service import core, wire
 from service.account import Account, account_of, committed_blocks
 from service.config import Cluster, Setup
 from service.core import Tx, tx_text
-from service.faults import stop_with_parent
-from service.folder import chosen, setups
-from service.signer import leaf_of
+from service.folder import chosen, current, is_endless, setups
+from service.parent import stop_with_parent
+from service.seals import leaf_of
 from service.status import Exit, ServiceError
 from service.session_trace import trace_of
 
+CLUSTER_FILE = "cluster.toml"
 MAX_PAIRED = 400       # transactions whose pairs are checked
 
 
@@ -79,15 +88,22 @@ def audit(
 def verdict_of(trace: bytes, cluster: Cluster) -> tuple[str, list[int]]:
     """The words of the proved audit, yes or what it found; and the faulty replicas, of which it
     claims nothing."""
-    try:
-        found = core.audit_trace(trace, run_of(cluster), cluster.public_keys())
-    except core.MissingFunction as fault:
-        return f"unchecked: {fault}", []
-    except core.ThemisError as fault:
-        return f"refused: {fault}", []
+    found = finding_of(trace, cluster)
+    if isinstance(found, str):
+        return found, []
     if found.status == 0:
         return "yes", list(found.faulty)
     return f"{found.status.name.lower()} {found}", list(found.faulty)
+
+
+def finding_of(trace: bytes, cluster: Cluster) -> core.Finding | str:
+    """What the proved audit finds; or why it does not read the trace."""
+    try:
+        return core.audit_trace(trace, run_of(cluster), cluster.public_keys())
+    except core.MissingFunction as fault:
+        return f"unchecked: {fault}"
+    except core.ThemisError as fault:
+        return f"refused: {fault}"
 
 
 def run_of(cluster: Cluster) -> core.Run:
@@ -263,9 +279,24 @@ def audit_session(session: Path, named: set[int], is_settled: bool) -> tuple[Rep
     return audit(found[0].cluster, accounts_of(found, faulty), faulty, is_settled)
 
 
+def audit_ended(folder: Path, is_watching: bool) -> Exit:
+    """Audits sessions that follow one another, and prints a line for each."""
+    from service.chain_audit import PATIENCE, Audits, line_of_report  # it is built on this module
+
+    audits = Audits.of_folder(folder, PATIENCE if is_watching else 0.0)
+    for report in audits.watch() if is_watching else audits.ended():
+        print(line_of_report(report), flush=True)
+        if not report.is_well():
+            return Exit.CHECK_FAILED
+    print(audits.next_text())
+    return Exit.STOPPED
+
+
 def main() -> int:
-    parser = argparse.ArgumentParser(description="Audits a session whose replicas are stopped.")
-    parser.add_argument("folder", type=Path, help="the folder of `cluster make`")
+    parser = argparse.ArgumentParser(description="Audits sessions that have ended.")
+    parser.add_argument("folder", type=Path, help="the folder of `cluster make`, or of accounts")
+    parser.add_argument("--watch", action="store_true",
+                        help="where sessions follow one another: go on, for ever")
     parser.add_argument("--faulty", type=int, nargs="*", default=[], metavar="REPLICA",
                         help="replicas whose logs prove nothing, or are lost")
     parser.add_argument("--settled", action="store_true", help="the session ended by `close`")
@@ -273,6 +304,9 @@ def main() -> int:
     parser.add_argument("--trace", type=Path, help="write the trace to this file")
     given = parser.parse_args()
     try:
+        folder = given.folder.resolve()
+        if (folder / CLUSTER_FILE).exists() or is_endless(current(folder)):
+            return audit_ended(folder, given.watch)
         session = chosen(given.folder.resolve(), given.session)
         report, trace = audit_session(session, set(given.faulty), given.settled)
     except ServiceError as fault:

@@ -4,9 +4,10 @@ usage: python3 -m service.bench FOLDER [NAME ..]
 
 | Name | What it measures |
 |---|---|
-| idle | views that an idle cluster uses; a lone transaction |
+| idle | views and processor that an idle cluster uses; a lone transaction |
 | rates | latency and throughput at 10, 50, 200 and 1,000 transactions a second |
 | sustained | 1,000 transactions a second for half a minute |
+| heavy | 6,000 transactions a second, as many as a session takes |
 | burst | 10,000 transactions at once |
 | dead | one replica down |
 | away | how long a replica that was away takes to catch up, while load goes on |
@@ -39,12 +40,19 @@ from service.making import Plan, make
 from service.processes import WITH_PARENT, start, statuses, wait_up
 
 N = 5
+CLIENTS = 16                # of one load: a replica takes no more than 1,000 of one at a time
+IDLE_SECONDS = 10
 RATES = (10, 50, 200, 1000)
 SECONDS_OF_LOAD = 6
 RECOVERED_VIEWS = 2000
 AWAY_RATE, AWAY_SECONDS, CATCH_UP_SECONDS = 50, (5, 20), 20
 LEVEL = 4                   # views: one commit and what follows it
 TICKS = os.sysconf("SC_CLK_TCK")
+# In the status, how long the core's calls of each kind took (`host/shell/src/timed.rs`).
+CORE_CALLS = (
+    "prepare_us", "foresee_us", "turn_us", "sends_us", "batches_us", "receive_us", "arrive_us",
+    "gives_us",
+)
 
 
 @dataclass(frozen=True)
@@ -120,8 +128,9 @@ class Bench:
     def load(self, count: int, rate: float, wait: float = 120.0, jitter: float = 0.02) -> str:
         """Runs one client to its end: what it saw, and what the replicas used for it."""
         before, used = self.status(), self.usage()
-        number = random.randrange(1, 1 << 31)
-        txs = [f"{number}.{k}.0" for k in range(count)]
+        first = random.randrange(1, 1 << 31)
+        clients = min(CLIENTS, count)
+        txs = [f"{first + k % clients}.{1 + k // clients}.0" for k in range(count)]
         client = Client(self.ports, 1, Load(txs, rate, jitter))
         asyncio.run(client.run(wait))
         after, now = self.status(), self.usage()
@@ -130,7 +139,7 @@ class Bench:
 
         def gone(key: str) -> int:
             return int(after.get(key, 0)) - int(before.get(key, 0))
-        syncs, core = max(gone("syncs"), 1), gone("prepare_us") + gone("turn_us")
+        syncs, core = max(gone("syncs"), 1), sum(map(gone, CORE_CALLS))
         return (
             f"{client.summary()}\n      views {views}, ticks {gone('ticks')};"
             f" a view and replica: {spent * 1000:.1f} ms of processor, of which the core"
@@ -143,9 +152,11 @@ class Bench:
 def idle(folder: Path) -> None:
     bench = Bench(folder)
     bench.load(5, 5)
-    before = bench.status()["view"]
-    time.sleep(10)
-    print(f"  views in 10 s without a transaction: {bench.status()['view'] - before}")
+    before, used = bench.status()["view"], bench.usage()
+    time.sleep(IDLE_SECONDS)
+    share = (bench.usage().seconds - used.seconds) / IDLE_SECONDS / N
+    print(f"  {IDLE_SECONDS} s without a transaction: {bench.status()['view'] - before} views,"
+          f" and {share:.1%} of a processor for each replica")
     print(f"  10 lone transactions: {bench.load(10, 1)}")
     bench.stop()
 
@@ -162,6 +173,13 @@ def sustained(folder: Path) -> None:
     bench = Bench(folder)
     bench.load(20, 20)
     print(f"  1,000/s for 30 s: {bench.load(30_000, 1000)}", flush=True)
+    bench.stop()
+
+
+def heavy(folder: Path) -> None:
+    bench = Bench(folder)
+    bench.load(20, 20)
+    print(f"  6,000/s for 10 s: {bench.load(60_000, 6000)}", flush=True)
     bench.stop()
 
 
@@ -241,7 +259,7 @@ def opened(setup: Setup, data: bytes) -> tuple[float, int]:
 
 MEASURES: dict[str, Callable[[Path], None]] = {
     it.__name__: it
-    for it in (idle, rates, sustained, burst, dead, away, interval, slow, recovery)
+    for it in (idle, rates, sustained, heavy, burst, dead, away, interval, slow, recovery)
 }
 
 

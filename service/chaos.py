@@ -1,15 +1,19 @@
 """Five replicas and clients under faults that a seed gives; then the audit.
 
-usage: python3 -m service.chaos FOLDER [--seed S] [--runs N] [--jobs J] [--seconds T]
+usage: python3 -m service.chaos FOLDER [--sessions] [--seed S] [--runs N] [--jobs J] [--seconds T]
                                 [--faults F,..] [--deeds D,..] [--burst N] [--forget]
        python3 -m service.chaos --table FILE ..
 
-Replicas are killed by SIGKILL, also within a write; links are cut, both ways or one way; disks are
-slow or full. At a drawn moment a client submits many transactions at once. A crash that recovers
-is no fault, so these hit any replica, also while another one is
-faulty (`service/deeds.py`). In half of the runs with a faulty replica they hit that one alone.
---forget breaks the law of the log on purpose at honest replicas, so that the audit has something to
-find; such a run passes where the audit finds all that it has to (`service/forgetting.py`).
+Replicas are killed by SIGKILL, also within a write; links are cut, both ways or one way; disks
+are slow or full. At a drawn moment a client submits many transactions at once. A crash that
+recovers is no fault, so these hit any replica, also while another one is faulty: that one runs
+`themisd-faulty` (`host/deeds`). In half of the runs with a faulty replica they hit that one
+alone. --forget breaks the law of the log on purpose at honest replicas, so that the audit has
+something to find; such a run passes where the audit finds all that it has to
+(`service/forgetting.py`).
+
+With --sessions each run is over short sessions that follow one another: a soak with drawn faults
+and deeds (`service/chaos_sessions.py`), in which a crash may be a fault.
 
 Each run has a process of its own, and prints a line as it ends. The folder of a run that fails is
 kept. A table of all runs is printed at the end; --table makes one from the lines in files.
@@ -19,35 +23,32 @@ from __future__ import annotations
 
 import argparse
 import asyncio
-import multiprocessing
 import random
 import shutil
 import signal
 import sys
 import time
-import traceback
 from collections import Counter, deque
-from collections.abc import Callable, Iterable, Iterator, Sequence
-from concurrent.futures import ProcessPoolExecutor, ThreadPoolExecutor, as_completed
+from collections.abc import Iterable, Iterator, Sequence
 from contextlib import suppress
-from dataclasses import dataclass, replace
+from dataclasses import replace
 from itertools import islice
 from pathlib import Path
 from subprocess import Popen, TimeoutExpired
 
+from service import chaos_sessions
 from service.account import Account
 from service.audit import Report, accounts_of, audit, is_promised, proposals
 from service.client import Client, Load
 from service.config import Cluster
 from service.core import tx_text
-from service.deeds import FRONT_CLIENT, NAMES
 from service.ending import settle
-from service.faults import stop_with_parent
 from service.folder import replica_ports, setups
 from service.forgetting import earlier_accounts, forget, reuse_of
 from service.making import Plan, held_ports, make, ports_of
 from service.processes import START_WITHIN, WITH_PARENT, is_up, last_line, start, wait_up
 from service.receipts import heard_in, passed
+from service.runs import ALL_DEEDS, SESSION_DEEDS, Weather, names_of, perform_all
 from service.status import Exit, ServiceError
 from service.tally import FAULT_NAMES, Outcome, outcomes_of, table
 
@@ -56,25 +57,12 @@ MAX_TEAR = 100_000
 CLIENTS = 3
 BURST_CLIENT = 500
 BURSTS = (0, 0, 300, 1000, 3000)
-FRONT_RATE = 5.0            # transactions a second of a front-runner
-SETTLE_WITHIN = 300.0
-STOP_WITHIN = 60.0
+# What takes longer hangs.
+SETTLE_WITHIN = 900.0
+STOP_WITHIN = 300.0
 WRITE_WITHIN = 3.0
 MAX_DETAILS = 20
 N = 5
-
-
-@dataclass(frozen=True)
-class Weather:
-    """What a run is given."""
-
-    seed: int
-    seconds: float = 10.0
-    rate: float = 30.0                          # transactions a second, of all clients
-    faults: tuple[str, ...] | None = None       # each once, in this order; None: the seed draws
-    deeds: tuple[str, ...] | None = None        # None: the seed draws them
-    burst: int | None = None                    # transactions at once; None: the seed draws it
-    forget: bool = False
 
 
 class Run:
@@ -82,7 +70,8 @@ class Run:
 
     def __init__(self, folder: Path, weather: Weather) -> None:
         self.weather, self.random = weather, random.Random(weather.seed)
-        self.faulty, self.deeds = self._draw_deeds()
+        self.faulty = self.random.randrange(N)
+        self.deeds = weather.draw_deeds(self.random)
         is_alone = bool(self.deeds) and self.random.random() < 0.5
         self.honest = [i for i in range(N) if not self.deeds or i != self.faulty]
         self.targets = [self.faulty] if is_alone else list(range(N))
@@ -103,13 +92,6 @@ class Run:
         self.dropped = 0
         self.clients: list[Client] = []
         self.bursts = 0
-
-    def _draw_deeds(self) -> tuple[int, tuple[str, ...]]:
-        faulty = self.random.randrange(N)
-        if self.weather.deeds is not None:
-            return faulty, self.weather.deeds
-        count = self.random.choice((0, 1, 1, 2, 3))
-        return faulty, tuple(self.random.sample(NAMES, count))
 
     # ---- processes
 
@@ -141,7 +123,7 @@ class Run:
             if self.processes[i].poll() is not None:
                 text = f"replica {i} ended by itself: {last_line(self.session, i)}"
                 self.host_faults.append(text)
-            if "Traceback" in (self.session / f"{i}.out").read_text():
+            if "panicked at" in (self.session / f"{i}.out").read_text():
                 self.host_faults.append(f"replica {i} met a fault of its program: see {i}.out")
 
     # ---- faults
@@ -220,7 +202,7 @@ class Run:
         ]
         wait = self.weather.seconds + SETTLE_WITHIN
         loads = [client.run(wait) for client in self.clients]
-        work = asyncio.gather(*loads, self._burst(wait), self._front(wait))
+        work = asyncio.gather(*loads, self._burst(wait))
         await self.break_things()
         is_final = all(await work)
         return await self._settle() and is_final
@@ -231,22 +213,10 @@ class Run:
         count = self.weather.burst if self.weather.burst is not None else drawn
         self.bursts = count
         await asyncio.sleep(self.random.uniform(0, self.weather.seconds / 2))
-        return await self._submit([f"{BURST_CLIENT}.{k}.0" for k in range(count)], 1e6, wait)
-
-    async def _front(self, wait: float) -> bool:
-        """The transactions of a front-runner, at its replica alone."""
-        if "front_run" not in self.deeds:
+        if count == 0:
             return True
-        texts = [f"{FRONT_CLIENT}.{k}.0" for k in range(int(self.weather.seconds * FRONT_RATE))]
-        await self._submit(texts, FRONT_RATE, wait, [self.faulty])
-        return True
-
-    async def _submit(
-        self, texts: list[str], rate: float, wait: float, only: list[int] | None = None,
-    ) -> bool:
-        if not texts:
-            return True
-        self.clients.append(client := Client(self.ports, 1, Load(texts, rate, 0.02, only)))
+        texts = [f"{BURST_CLIENT}.{k}.0" for k in range(count)]
+        self.clients.append(client := Client(self.ports, 1, Load(texts, 1e6)))
         return await client.run(wait)
 
     async def _settle(self) -> bool:
@@ -317,53 +287,24 @@ def perform(folder: Path, weather: Weather) -> Outcome:
     return outcome
 
 
-def perform_apart(folder: Path, weather: Weather) -> Outcome:
-    """A run in a process of its own. Where it ends by a fault, the outcome says by which."""
-    spawn = multiprocessing.get_context("spawn")
-    try:
-        with ProcessPoolExecutor(1, spawn, stop_with_parent) as pool:
-            return pool.submit(perform, folder, weather).result()
-    except Exception as fault:      # of any kind: the other runs go on
-        lines = "".join(traceback.format_exception(fault)).splitlines()
-        return Outcome(weather.seed, details=tuple(lines))
-
-
-def perform_all(folder: Path, weathers: Sequence[Weather], jobs: int) -> Iterator[Outcome]:
-    """The runs, several at a time, as they end."""
-    pool = ThreadPoolExecutor(jobs)
-    try:
-        runs = [pool.submit(perform_apart, folder / str(it.seed), it) for it in weathers]
-        for done in as_completed(runs):
-            yield done.result()
-    finally:
-        pool.shutdown(cancel_futures=True)
-
-
 # ---- command
-
-
-def names_of(known: Iterable[str]) -> Callable[[str], tuple[str, ...]]:
-    """A reader of names that commas separate, or of "none"."""
-    def read(text: str) -> tuple[str, ...]:
-        names = () if text == "none" else tuple(text.split(","))
-        if unknown := set(names) - set(known):
-            raise argparse.ArgumentTypeError(f"unknown: {', '.join(sorted(unknown))}")
-        return names
-    return read
 
 
 def arguments() -> argparse.Namespace:
     parser = argparse.ArgumentParser(description="Replicas under faults that a seed gives.")
     parser.add_argument("folder", type=Path, nargs="?", help="a folder for the runs")
+    parser.add_argument("--sessions", action="store_true", help="sessions follow one another")
     parser.add_argument("--seed", type=int, default=1, help="of the first run")
     parser.add_argument("--runs", type=int, default=1, help="runs, each with the next seed")
     parser.add_argument("--jobs", type=int, default=1, help="runs at a time")
     parser.add_argument("--seconds", type=float, default=10.0, help="of faults in a run")
     parser.add_argument("--rate", type=float, default=30.0, help="transactions a second")
     parser.add_argument("--faults", type=names_of(FAULT_NAMES), metavar="F,..",
-                        help=f"each once, instead of drawn ones: {', '.join(FAULT_NAMES)}; or none")
-    parser.add_argument("--deeds", type=names_of(NAMES), metavar="D,..",
-                        help=f"of a faulty replica: {', '.join(NAMES)}; or none")
+                        help="each once, instead of drawn ones: "
+                        f"{', '.join(sorted(set(FAULTS)))}; or none. With --sessions those that are"
+                        f" drawn: {', '.join(chaos_sessions.FAULTS)}")
+    parser.add_argument("--deeds", type=names_of(ALL_DEEDS), metavar="D,..",
+                        help=f"of a faulty replica: {', '.join(ALL_DEEDS)}; or none")
     parser.add_argument("--burst", type=int, help="transactions at once, instead of a drawn number")
     parser.add_argument("--forget", action="store_true", help="drop records that were acted on")
     parser.add_argument("--table", type=Path, nargs="+", metavar="FILE",
@@ -371,6 +312,12 @@ def arguments() -> argparse.Namespace:
     given = parser.parse_args()
     if (given.folder is None) == (given.table is None):
         parser.error("one of FOLDER and --table is needed")
+    if given.sessions and (given.forget or given.burst is not None):
+        parser.error("--forget and --burst are of one session")
+    if not given.sessions:
+        unknown = {*(given.faults or ())} - {*FAULTS} | {*(given.deeds or ())} & {*SESSION_DEEDS}
+        if unknown:
+            parser.error(f"only with --sessions: {', '.join(sorted(unknown))}")
     return given
 
 
@@ -383,11 +330,13 @@ def main() -> int:
     weathers = [
         Weather(
             seed, given.seconds, given.rate, given.faults, given.deeds, given.burst, given.forget,
+            given.sessions,
         )
         for seed in range(given.seed, given.seed + given.runs)
     ]
     outcomes = []
-    for outcome in perform_all(given.folder.resolve(), weathers, given.jobs):
+    of_one = chaos_sessions.perform if given.sessions else perform
+    for outcome in perform_all(of_one, given.folder.resolve(), weathers, given.jobs):
         print(outcome.text(), flush=True)
         outcomes.append(outcome)
     print(table(outcomes))

@@ -2,7 +2,9 @@
 
 usage: python3 -m service.client FOLDER [TX .. | --file FILE | --count N] [--position P]
 
-Without transactions it prints all final batches from position P on, for --wait seconds.
+Without transactions it prints all final batches from position P on, for --wait seconds. With some
+it follows from where the replicas of this machine stand, unless --position says otherwise.
+Positions go on where sessions follow one another.
 
 A batch is final for a client once f+1 replicas have reported it at its position: one of them is
 honest. A client should submit to all replicas, since each orders by what it received itself.
@@ -20,18 +22,21 @@ import statistics
 import sys
 import time
 from collections import Counter, deque
+from collections.abc import Callable
 from dataclasses import dataclass, field
 from pathlib import Path
 
 from service.core import tx_of_text
-from service.folder import current, replica_ports, setups
+from service.folder import current, is_endless, replica_ports, setups
 from service.identities import FIRST
 from service.ports import Port
+from service.processes import statuses
 from service.status import Exit, ServiceError
 
 MAX_SUBMITTED = 200         # transactions of one line
 RETRY_AFTER = 0.2
 LANES = 8                   # connections of a client to a replica
+TOO_FAR = "above the window"        # of a refusal that passes: earlier numbers are not final yet
 
 
 @dataclass
@@ -78,6 +83,8 @@ class Client:
         self.start_of: dict[str, float] = {}
         self.latency: dict[str, float] = {}
         self.answers: Counter[str] = Counter()
+        self.missing = set(load.txs)
+        self.refused: dict[str, dict[int, str]] = {}    # by replica: its number was used before
         self.is_done = asyncio.Event()
         self.reader = client_of(load.txs[0]) if load.txs else FIRST     # who follows
 
@@ -120,14 +127,14 @@ class Client:
                 reader, writer = await self.replicas[replica].open(client)
                 try:
                     while queue:
-                        await self._send_due(queue, reader, writer)
+                        await self._send_due(replica, queue, reader, writer)
                 finally:
                     writer.close()
             except OSError:
                 await asyncio.sleep(RETRY_AFTER)
 
     async def _send_due(
-        self, queue: deque[tuple[float, str]], reader: asyncio.StreamReader,
+        self, replica: int, queue: deque[tuple[float, str]], reader: asyncio.StreamReader,
         writer: asyncio.StreamWriter,
     ) -> None:
         """Sends what is due, and waits for the answer. What is not taken goes back."""
@@ -141,15 +148,36 @@ class Client:
         answer = ""
         try:
             writer.write(f"submit {' '.join(tx for _, tx in due)}\n".encode())
-            answer = (await reader.readline()).decode().split(" ")[0].strip()
+            answer = (await reader.readline()).decode().strip()
         finally:
-            if answer not in ("ok", "bad", "closed", "over"):
-                queue.extendleft(reversed(due))
+            is_over = self._is_over(answer, replica, [tx for _, tx in due])
+            queue.extendleft(it for it in reversed(due) if not is_over(it[1]))
         if not answer:
             raise ConnectionError("closed")
-        self.answers[answer] += 1
-        if answer == "busy":
+        self.answers[answer.split()[0]] += 1
+        if answer.startswith("busy") or TOO_FAR in answer:
             await asyncio.sleep(RETRY_AFTER)
+
+    def _is_over(self, answer: str, replica: int, txs: list[str]) -> Callable[[str], bool]:
+        """Which transactions of a line need not be sent to this replica again. A refusal names one,
+        and the others were not taken either."""
+        word, _, rest = answer.partition(" ")
+        named, _, cause = rest.partition(": ")
+        if word != "bad" or named not in txs:
+            return lambda _: word in ("ok", "closed", "over", "bad")
+        if TOO_FAR in cause:
+            return lambda _: False
+        refusals = self.refused.setdefault(named, {})
+        refusals[replica] = cause
+        if len(refusals) >= self.batches.enough:
+            self._settle(named)
+        return lambda tx: tx == named
+
+    def _settle(self, tx: str) -> None:
+        """Nothing more is to be heard of a transaction."""
+        self.missing.discard(tx)
+        if self.load.txs and not self.missing:
+            self.is_done.set()
 
     async def _follow(self, replica: int) -> None:
         """Hears the batches of one replica, for ever. Where a connection ends, it makes another."""
@@ -177,8 +205,7 @@ class Client:
             for tx in txs:
                 if tx in self.start_of:
                     self.latency[tx] = now - self.start_of[tx]
-        if self.start_of and len(self.latency) == len(self.start_of):
-            self.is_done.set()
+                    self._settle(tx)
 
     def summary(self) -> str:
         """Counts, throughput, and latency from the time when a transaction was due."""
@@ -207,7 +234,8 @@ def arguments() -> argparse.Namespace:
     parser.add_argument("--file", type=Path, help="a file of transactions, one a line")
     parser.add_argument("--count", type=int, default=0, help="submit that many generated ones")
     parser.add_argument("--rate", type=float, default=100.0, help="transactions a second")
-    parser.add_argument("--position", type=int, default=0, help="the first batch to follow")
+    parser.add_argument("--position", type=int, help="the first batch to follow (default: 0, or"
+                        " where the replicas are when something is submitted)")
     parser.add_argument("--jitter", type=float, default=0.02, help="seconds of delay at most")
     parser.add_argument("--wait", type=float, default=60.0, help="seconds until it gives up")
     return parser.parse_args()
@@ -239,14 +267,30 @@ def main() -> int:
 def perform(given: argparse.Namespace) -> int:
     load = Load(transactions(given), given.rate, given.jitter)
     session = current(given.folder.resolve())
-    client = Client(replica_ports(session), setups(session)[0].cluster.f, load, given.position)
+    at = given.position
+    if at is None:
+        at = position_now(session) if load.txs else 0
+    client = Client(replica_ports(session), setups(session)[0].cluster.f, load, at)
     is_done = asyncio.run(client.run(given.wait))
-    for position, txs in enumerate(client.final, given.position):
+    for position, txs in enumerate(client.final, at):
         if not load.txs or set(txs) & set(load.txs):
             print(f"batch {position} {' '.join(txs)}")
+    for tx, causes in client.refused.items():
+        if tx not in client.latency:
+            print(f"refused {tx}: {next(iter(causes.values()))}")
     if load.txs:
         print(client.summary())
-    return Exit.STOPPED if is_done or not load.txs else Exit.NOT_FINAL
+    is_final = is_done and len(client.latency) == len(set(load.txs))
+    return Exit.STOPPED if is_final or not load.txs else Exit.NOT_FINAL
+
+
+def position_now(session: Path) -> int:
+    """Before this position there is nothing that was not submitted yet: where the replicas are that
+    answer an operator on this machine; 0 where none does. A session alone starts at 0."""
+    if not is_endless(session):
+        return 0
+    found = [it["batches"] for it in asyncio.run(statuses(session)) if it is not None]
+    return min(found, default=0)
 
 
 if __name__ == "__main__":

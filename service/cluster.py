@@ -2,9 +2,13 @@
 
 usage: python3 -m service.cluster make|start|status|stop|close|prepare|next FOLDER
 
-A folder holds sessions, 1, 2 and so on, each with its own keys, logs and configurations. A session
-ends at its last view or by `close`; `next` starts the one after it, with the transactions that
-were not final. The other commands mean the first session that was not closed.
+The sessions of a cluster follow one another without an operator: after `make` and `start`, nothing
+more has to be typed for as long as nothing breaks. `close` has the session that runs end early, and
+the next one runs at once.
+
+With `make --one-session` a folder holds sessions, 1, 2 and so on, each with its own keys, logs and
+configurations. A session ends at its last view or by `close`; `next` starts the one after it, with
+the transactions that were not final. The other commands mean the first session that was not closed.
 """
 
 from __future__ import annotations
@@ -16,9 +20,10 @@ import tomllib
 from pathlib import Path
 from typing import Any
 
-from service.ending import close_session, close_stopped, prepare_next, start_next
-from service.folder import RESULT, current, sessions
-from service.making import Plan, make
+from service.chain_audit import Audits, line_of_report
+from service.ending import close_session, close_stopped, end_running, prepare_next, start_next
+from service.folder import RESULT, current, is_endless, sessions
+from service.making import Plan, make, make_endless
 from service.processes import start_all, status_lines, statuses, stop_all
 from service.status import Exit, ServiceError
 
@@ -26,7 +31,7 @@ from service.status import Exit, ServiceError
 def arguments() -> argparse.Namespace:
     parser = argparse.ArgumentParser(description="Makes and runs a cluster on this machine.")
     commands = parser.add_subparsers(dest="command", required=True)
-    made = commands.add_parser("make", help="make keys, configurations and logs of a session")
+    made = commands.add_parser("make", help="make the files of a cluster")
     made.add_argument("folder", type=Path)
     made.add_argument("--n", type=int, default=5, help="replicas")
     made.add_argument("--f", type=int, default=1, help="how many of them may be faulty")
@@ -35,12 +40,14 @@ def arguments() -> argparse.Namespace:
     made.add_argument("--views", type=int, default=2600, help="the last view of a session")
     made.add_argument("--height", type=int, default=510, help="of the keys: 5, 10, 505, 510")
     made.add_argument("--plain", action="store_true", help="no TLS between replicas")
+    made.add_argument("--one-session", action="store_true",
+                      help="one session, which `close` ends and audits; `next` makes another")
     made.add_argument("--set", type=toml_line, action="append", default=[], metavar="KEY=VALUE",
                       help="more of each replica's configuration, in TOML")
     for name, text in COMMANDS.items():
         commands.add_parser(name, help=text).add_argument("folder", type=Path)
-    closing = commands.add_parser("close", help="end the session: make all replicas level, audit,"
-                                                " store the result")
+    closing = commands.add_parser("close", help="end the session that runs; of one session: make"
+                                                " all replicas level, audit, store the result")
     closing.add_argument("folder", type=Path)
     closing.add_argument("--wait", type=float, default=60.0, help="seconds for what waits")
     closing.add_argument("--faulty", type=int, nargs="*", default=[], metavar="REPLICA",
@@ -85,6 +92,15 @@ def print_status(session: Path) -> None:
     print("\n".join(status_lines(asyncio.run(statuses(session)))))
 
 
+def print_audits(folder: Path) -> None:
+    """What audits have found of ended sessions, in a line."""
+    reports = Audits.of_folder(folder).reports()
+    if bad := [it for it in reports if not it.is_well()]:
+        print(f"audits found something: {line_of_report(bad[-1])}")
+    elif reports:
+        print(f"audited up to session {reports[-1].session}: yes")
+
+
 def named_text(faulty: list[int]) -> str:
     """The faulty replicas: the audit claims nothing of them."""
     return f", faulty {' '.join(map(str, faulty))}" if faulty else ""
@@ -93,9 +109,12 @@ def named_text(faulty: list[int]) -> str:
 def perform(given: argparse.Namespace) -> Exit:
     folder: Path = given.folder.resolve()
     if given.command == "make":
-        print(f"made {make(folder, plan_of(given))}")
+        makes = make if given.one_session else make_endless
+        print(f"made {makes(folder, plan_of(given))}")
         return Exit.STOPPED
     session = current(folder)
+    if is_endless(session):
+        return perform_endless(given, session)
     match given.command:
         case "start":
             if (session / RESULT).exists():
@@ -124,6 +143,29 @@ def perform(given: argparse.Namespace) -> Exit:
             print(f"made {prepare_next(sessions(folder)[-1])}")
         case "next":
             print_status(start_next(folder)[0])
+    return Exit.STOPPED
+
+
+def perform_endless(given: argparse.Namespace, session: Path) -> Exit:
+    """The same where sessions follow one another."""
+    match given.command:
+        case "start":
+            start_all(session)
+            print_status(session)
+        case "status":
+            print_status(session)
+            print_audits(session.parent)
+        case "stop":
+            stop_all(session)
+        case "close":
+            if given.stopped or given.faulty:
+                text = "sessions follow one another: `close` has the running one end, and no more"
+                raise ServiceError(Exit.USAGE, text)
+            ended, position = asyncio.run(end_running(session, given.wait))
+            print(f"session {ended} has ended with {position} batches in all; the next one runs")
+        case _:
+            text = f"sessions follow one another by themselves: there is no `{given.command}`"
+            raise ServiceError(Exit.USAGE, text)
     return Exit.STOPPED
 
 

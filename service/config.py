@@ -23,7 +23,7 @@ TRANSPORTS = ("tls", "plain")
 class Cluster:
     """What all replicas of a session agree on."""
 
-    session: int                # counted from 1; each has its own keys and views
+    session: int                # counted from 1; 0 where sessions follow one another
     n: int
     f: int
     p: int
@@ -69,8 +69,8 @@ class Config:
 
     replica: int
     cluster_file: str
-    secret_file: str                # 48 random bytes, in hex; readable by its owner alone
-    log: str
+    secret_file: str                # random bytes, in hex; readable by its owner alone
+    log: str = ""                   # of the one session
     tls_key: str = ""               # the private key of this replica's certificate
     carried: str = ""               # transactions of the session before that were not final
     settled: str = ""               # those that were final in any session before
@@ -80,9 +80,14 @@ class Config:
     hold: bool = True               # proposals wait while no transaction does
     share_after: float = 0.5        # time after which peers are told of waiting ones again
     max_waiting: int = 16_000       # of clients, that wait; above it clients hear `busy`
-    max_of_client: int = 1000       # of these, of one client; the host in Python has no such bound
+    max_of_client: int = 1000       # of these, of one client
     hold_asks: bool = True          # an Ask waits until f+1 replicas are in its view
     fetch_rate: float = 100.0       # blocks a second that a peer may ask for
+    view_floor: float = 0.025       # least time between views after some that were free
+    idle_view_floor: float = 0.1    # the same while little waits
+    sessions: bool = False          # sessions follow one another; the secret is a master secret
+    keep_logs: bool = False         # the logs of sessions that have ended stay
+    accounts: int = 8               # accounts of such sessions that stay; older ones go
     fsync: bool = True
     allow_faults: bool = False      # for tests: the operator may order a `fault`
     log_receipts: bool = False      # for tests: REPLICA.receipts says what was received and heard

@@ -1,7 +1,8 @@
 """The end of a session, and the start of the next one.
 
 At its end submission stops, what waits becomes final as far as views allow, all replicas come to
-the same list, the replicas stop, and their logs are audited. The result stays in the session's folder.
+the same list, the replicas stop, and their logs are audited. The result stays in the session's
+folder. Where sessions follow one another, operators ask for the end, and no more.
 """
 
 from __future__ import annotations
@@ -26,6 +27,7 @@ from service.processes import running, start_all, statuses, stop_all
 from service.status import Exit, ServiceError
 
 POLL_EVERY = 0.2
+ASK_EVERY = 2.0
 CARRIED = "carried.json"        # of a closed session: what was not final, by replica
 BATCHES = "batches.txt"
 OWN = {"replica", "cluster_file", "secret_file", "log", "tls_key", "carried", "settled", "deeds"}
@@ -58,6 +60,38 @@ async def stop_submission(session: Path) -> None:
             await at.order("close")
         except (OSError, TimeoutError):
             pass        # it is down, and admits nothing
+
+
+async def end_running(session: Path, wait: float) -> tuple[int, int]:
+    """Has the running session end, where sessions follow one another, and waits until the next one
+    runs: at a quorum, and at all replicas that answer and have a part in it. Returns the number of
+    the session that ended, and how many batches the list has.
+
+    Who still shows that session is asked again, as nothing is asked of a replica that opens it. Who
+    has left it is not: a `close` without a number would end the next one as well."""
+    cluster, ports = setups(session)[0].cluster, replica_ports(session)
+    up = list(filter(None, found := await statuses(session)))
+    if not up:
+        raise ServiceError(Exit.USAGE, f"{session}: no replica runs")
+    ends, end, ask_at = max(it["session"] for it in up), time.monotonic() + wait, 0.0
+    while not runs_after(ends, up, cluster.n - cluster.f):
+        if time.monotonic() > end:
+            where = ", ".join(f"{it['session']} {it['stage']}" for it in up)
+            text = f"the session after {ends} does not run after {wait:g} seconds: {where}"
+            raise ServiceError(Exit.NOT_FINAL, text)
+        if time.monotonic() >= ask_at:
+            asked = [at for at, it in zip(ports, found) if it and it["session"] == ends]
+            await asyncio.gather(*(at.end_session(ends) for at in asked))
+            ask_at = time.monotonic() + ASK_EVERY
+        await asyncio.sleep(POLL_EVERY)
+        up = list(filter(None, found := await statuses(session)))
+    return ends, min(it["first"] for it in up)
+
+
+def runs_after(session: int, up: list[dict[str, Any]], quorum: int) -> bool:
+    """Whether later sessions than this one run at a quorum, and at all that have a part in them."""
+    is_past = all(it["session"] > session and it["stage"] in ("running", "out") for it in up)
+    return is_past and sum(it["stage"] == "running" for it in up) >= quorum
 
 
 def close_session(session: Path, wait: float, given_up: Set[int] = frozenset()) -> Report:

@@ -1,4 +1,9 @@
-"""The folder of a cluster: sessions 1, 2 and so on, each with its keys, logs and configurations."""
+"""The folder of a cluster.
+
+Where sessions follow one another, `replicas` has a folder for each replica, as on a machine of its
+own. Otherwise there are sessions 1, 2 and so on, each with its keys, logs and configurations. Where
+a function takes a `session`, it takes `replicas` too.
+"""
 
 from __future__ import annotations
 
@@ -10,6 +15,18 @@ from service.ports import Port
 from service.status import Exit, ServiceError
 
 RESULT = "result.json"      # in the folder of a session that was closed
+REPLICAS = "replicas"
+
+
+def is_endless(session: Path) -> bool:
+    """Whether sessions follow one another there."""
+    return session.name == REPLICAS
+
+
+def config_path(session: Path, replica: int) -> Path:
+    """The configuration of a replica. Its other files are next to it."""
+    own = session / str(replica) if is_endless(session) else session
+    return own / f"{replica}.toml"
 
 
 def sessions(folder: Path) -> list[Path]:
@@ -22,15 +39,17 @@ def sessions(folder: Path) -> list[Path]:
 
 def setups(session: Path) -> list[Setup]:
     """The configurations of all replicas of a session."""
-    count = len([it for it in session.glob("*.toml") if it.stem.isdigit()])
-    return [Config.load(session / f"{i}.toml") for i in range(count)]
+    found = session.glob("*/*.public.toml") if is_endless(session) else session.glob("*.toml")
+    count = len([it for it in found if it.name.split(".")[0].isdigit()])
+    return [Config.load(config_path(session, i)) for i in range(count)]
 
 
 def replica_ports(session: Path) -> list[Port]:
     """Where clients and operators reach the replicas of a session."""
     found = setups(session)
     cluster, clients = found[0].cluster, folder_of(session)
-    certificates = [session / it for it in cluster.certificates] or [None] * cluster.n
+    files: list[Path | None] = [found[0].folder / it for it in cluster.certificates]
+    certificates = files if cluster.transport == "tls" else [None] * cluster.n
     return [
         Port(*address(at), setup.operator_path(), certificate, clients)
         for at, setup, certificate in zip(cluster.clients, found, certificates)
@@ -38,7 +57,10 @@ def replica_ports(session: Path) -> list[Port]:
 
 
 def current(folder: Path) -> Path:
-    """The first session that was not closed; the last one, where all were."""
+    """Where sessions follow one another, `replicas`; otherwise the first session that was not
+    closed, or the last one, where all were."""
+    if (folder / REPLICAS).is_dir():
+        return folder / REPLICAS
     found = sessions(folder)
     return next((it for it in found if not (it / RESULT).exists()), found[-1])
 

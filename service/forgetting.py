@@ -15,7 +15,7 @@ from pathlib import Path
 from service import log
 from service.account import Account, play
 from service.config import Setup
-from service.signer import leaf_of
+from service.seals import leaf_of
 from service.tally import Reuse
 from service.wire import Message
 

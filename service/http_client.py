@@ -2,8 +2,7 @@
 
 usage: python3 -m service.http_client FOLDER TX .. [--position P] [--wait SECONDS]
 
-It asks `themisd`: the host in Python does not speak HTTP. `Replica` has all calls of one replica,
-and needs Python's standard library alone. A batch is final for a client once f+1 replicas have
+`Replica` has all calls of one replica, and needs Python's standard library alone. A batch is final for a client once f+1 replicas have
 reported it at its position, since one of them is honest; and a client should submit to all
 replicas.
 

@@ -26,16 +26,22 @@ def folder_of(session: Path) -> Path:
     return session.parent / CLIENTS
 
 
-def give_authority(cluster: Path, session: Path) -> str:
-    """Copies the authority's certificate to a session's folder; makes the authority, and a first
-    client, where there is none. Returns the name of the copy."""
+def make_authority(cluster: Path) -> Path:
+    """Makes the authority, and a first client, where there is none. Returns its certificate."""
     folder = cluster / CLIENTS
-    if not (folder / f"{AUTHORITY}.crt").exists():
+    certificate = folder / f"{AUTHORITY}.crt"
+    if not certificate.exists():
         folder.mkdir(mode=0o700, exist_ok=True)
         make_certificate(folder, AUTHORITY, is_authority=True)
         sync_folder(cluster)
         make_client(folder, FIRST)
-    shutil.copyfile(folder / f"{AUTHORITY}.crt", session / AUTHORITY_FILE)
+    return certificate
+
+
+def give_authority(cluster: Path, session: Path) -> str:
+    """Copies the authority's certificate to a session's folder; makes the authority where there is
+    none. Returns the name of the copy."""
+    shutil.copyfile(make_authority(cluster), session / AUTHORITY_FILE)
     sync_file(session / AUTHORITY_FILE)
     return AUTHORITY_FILE
 

@@ -1,4 +1,6 @@
-"""Makes a session: keys, certificates, configurations, and logs that hold their headers."""
+"""Makes the files of a cluster: of one whose sessions follow one another, by `themisd init` and
+`themisd join` as its operators would, or of one session, with keys, certificates, configurations,
+and logs that hold their headers."""
 
 from __future__ import annotations
 
@@ -13,10 +15,14 @@ from pathlib import Path
 from typing import Any
 
 from service import core, log
-from service.config import Cluster, Config, Setup, table_of, write_toml
+from service.config import (
+    Cluster, Config, Setup, checked, config_error, table_of, toml_of, write_toml,
+)
 from service.core import SECRET_BYTES, Core
-from service.files import sync_folder
-from service.identities import give_authority
+from service.files import sync_folder, write_whole
+from service.folder import REPLICAS
+from service.identities import give_authority, make_authority
+from service.program import call
 from service.status import Exit, ServiceError
 from service.tls import make_certificate
 
@@ -81,6 +87,54 @@ def write_secret(path: Path) -> bytes:
         out.flush()
         os.fsync(out.fileno())
     return secret
+
+
+def make_endless(folder: Path, plan: Plan) -> Path:
+    """Makes a cluster whose sessions follow one another: a folder for each replica. Its secret is
+    drawn there, and leaves it never. It is made aside, and is there only once it is complete."""
+    at, aside = folder / REPLICAS, folder / f"{REPLICAS}.new"
+    if at.exists() or (folder / "1").exists():
+        raise ServiceError(Exit.USAGE, f"{folder} has a cluster already")
+    shutil.rmtree(aside, ignore_errors=True)
+    aside.mkdir(parents=True)
+    try:
+        init_all(aside, plan)
+        join_all(aside, plan)
+        aside.rename(at)
+        sync_folder(folder)
+    finally:
+        shutil.rmtree(aside, ignore_errors=True)
+    return at
+
+
+def init_all(at: Path, plan: Plan) -> None:
+    """What each replica has of its own, and its public part."""
+    ports = [f"{HOST}:{port}" for port in plan.ports or free_ports(2 * plan.n)]
+    for i in range(plan.n):
+        call("init", at / str(i), "--replica", str(i), "--height", str(plan.height),
+             "--peer", ports[i], "--client", ports[plan.n + i])
+
+
+def join_all(at: Path, plan: Plan) -> None:
+    """The rest, from the public parts of all."""
+    parts = [at / str(i) / f"{i}.public.toml" for i in range(plan.n)]
+    is_tls = plan.transport == "tls"
+    how = ["--client-authority", make_authority(at.parent)] if is_tls else ["--plain"]
+    for i in range(plan.n):
+        call("join", at / str(i), "--replica", str(i), "--f", str(plan.f), "--gamma",
+             f"{plan.p}/{plan.q}", "--views", str(plan.views), *how, *parts)
+        deeds = {"deeds": plan.deeds[i]} if i in plan.deeds else {}
+        add_keys(at / str(i) / f"{i}.toml", plan.more | deeds)
+
+
+def add_keys(config: Path, more: dict[str, Any]) -> None:
+    """Adds keys to a configuration that `join` has made."""
+    try:
+        lines = [f"{key} = {toml_of(value)}\n" for key, value in checked(Config, more).items()]
+    except ValueError as fault:
+        raise config_error(config, str(fault)) from fault
+    write_whole(config, config.read_text() + "".join(lines))
+    Config.load(config)     # a key that no configuration has, or that is there twice
 
 
 def make(folder: Path, plan: Plan, session: int = 1) -> Path:

@@ -4,13 +4,15 @@ from __future__ import annotations
 
 import asyncio
 import ssl
+from contextlib import suppress
 from dataclasses import dataclass
 from functools import lru_cache
 from pathlib import Path
 
 from service.identities import FIRST, key_pair
 
-ANSWER_WITHIN = 30.0
+ANSWER_WITHIN = 120.0       # a wait for longer hangs
+UNKNOWN = "bad no such command"
 MAX_LINE = 1 << 20
 Streams = tuple[asyncio.StreamReader, asyncio.StreamWriter]
 
@@ -42,6 +44,13 @@ class Port:
         async with asyncio.timeout(ANSWER_WITHIN):
             streams = await asyncio.open_unix_connection(self.operator, limit=MAX_LINE)
             return await answer(streams, line)
+
+    async def end_session(self, session: int) -> None:
+        """Asks the replica for the end of this session, where it runs it and where it answers. A
+        replica that takes no number is asked for the end of the one that runs."""
+        with suppress(OSError, TimeoutError):
+            if await self.order(f"close {session}") == UNKNOWN:
+                await self.order("close")
 
 
 async def answer(streams: Streams, line: str) -> str:

@@ -8,50 +8,69 @@ import os
 import signal
 import socket
 import subprocess
-import sys
 import time
-from collections.abc import Iterator
+from collections.abc import Iterator, Sequence
 from contextlib import suppress
 from pathlib import Path
 from typing import Any
 
 from service.config import Config, Setup
 from service.files import write_whole
-from service.folder import replica_ports, setups
+from service.folder import config_path, replica_ports, setups
 from service.ports import Port
+from service.program import FAULTY, TOP, themisd
 from service.status import Exit, ServiceError
 
-TOP = Path(__file__).resolve().parent.parent
-THEMISD, PYTHON = TOP / "out" / "themisd", "python"
 START_WITHIN = 600.0        # a start plays the whole log again; one that ends is seen at once
-HEARD_WITHIN, STOP_WITHIN = 5.0, 20.0
+HEARD_WITHIN = 5.0
+STOP_WITHIN = 120.0         # a process that runs then hangs
 WITH_PARENT = "--with-parent"       # for tests: no replica outlives them
 PIDS = "pids.json"
 
 
-def host_words(setup: Setup) -> list[str]:
-    """The command of a replica's host: `themisd` where it was built, else the one in Python.
-    THEMIS_HOST chooses it: the path of a `themisd`, or `python`. The host in Python alone has deeds
-    for a faulty replica."""
-    chosen = os.environ.get("THEMIS_HOST") or (str(THEMISD) if THEMISD.exists() else PYTHON)
-    if chosen == PYTHON or setup.config.deeds:
-        return [sys.executable, "-m", "service.replica"]
-    return [chosen, "run"]
+def program_of(setup: Setup) -> Path:
+    """The host of this replica; ServiceError where it is not built."""
+    return themisd(FAULTY if setup.config.deeds else None)
 
 
 def start(session: Path, replica: int, *more: str) -> subprocess.Popen[bytes]:
     """Starts the process of one replica. What it logs is added to REPLICA.out."""
-    config = session / f"{replica}.toml"
-    words = [*host_words(Config.load(config)), str(config), *more]
-    with open(session / f"{replica}.out", "ab") as out:
+    config = config_path(session, replica)
+    words = [program_of(Config.load(config)), "run", config, *more]
+    with open(config.with_suffix(".out"), "ab") as out:
         return subprocess.Popen(
             words, cwd=TOP, stdout=out, stderr=out, stdin=subprocess.DEVNULL,
             start_new_session=True,     # it outlives the terminal
         )
 
 
+def start_behind_others(words: Sequence[str | Path], out: Path) -> subprocess.Popen[bytes]:
+    """Starts a process that lets others have the processors first, and adds what it prints to a
+    file. Linux shares the processors out among sessions of processes before it looks at priorities
+    (autogroups), so it gets a session of its own, with a tenth of what others get."""
+    with open(out, "ab") as to:
+        process = subprocess.Popen(
+            ["nice", "-n", "19", *words], cwd=TOP, stdout=to, stderr=to,
+            stdin=subprocess.DEVNULL, start_new_session=True,
+        )
+    with suppress(OSError):     # a kernel without autogroups, or a process that has ended
+        while not has_set(Path(f"/proc/{process.pid}/autogroup"), "10"):
+            time.sleep(0.05)
+    return process
+
+
+def has_set(path: Path, text: str) -> bool:
+    """Writes to a file of the kernel; false where it takes that later: of one who is not root it
+    takes a change of an autogroup each 0.1 seconds, in all."""
+    try:
+        path.write_text(text)
+    except BlockingIOError:
+        return False
+    return True
+
+
 def last_line(session: Path, replica: int) -> str:
-    lines = (session / f"{replica}.out").read_text().splitlines()
+    lines = config_path(session, replica).with_suffix(".out").read_text().splitlines()
     return lines[-1] if lines else ""
 
 
@@ -106,7 +125,7 @@ def is_ours(session: Path, replica: int, pid: int) -> bool:
         words = Path(f"/proc/{pid}/cmdline").read_bytes().split(b"\0")
     except OSError:
         return False
-    return str(session / f"{replica}.toml").encode() in words
+    return str(config_path(session, replica)).encode() in words
 
 
 def start_all(session: Path, *more: str) -> dict[int, subprocess.Popen[bytes]]:
@@ -148,13 +167,16 @@ def stop_all(session: Path) -> None:
 
 async def statuses(session: Path) -> list[dict[str, Any] | None]:
     """The status of each replica; None of one that does not answer."""
-    async def one(at: Port) -> dict[str, Any] | None:
-        try:
-            answer: dict[str, Any] = json.loads(await at.order("status"))
-        except (OSError, TimeoutError, ValueError):
-            return None
-        return answer
-    return list(await asyncio.gather(*map(one, replica_ports(session))))
+    return list(await asyncio.gather(*map(status_of, replica_ports(session))))
+
+
+async def status_of(at: Port) -> dict[str, Any] | None:
+    """The status of a replica; None where it does not answer."""
+    try:
+        answer: dict[str, Any] = json.loads(await at.order("status"))
+    except (OSError, TimeoutError, ValueError):
+        return None
+    return answer
 
 
 def status_lines(found: list[dict[str, Any] | None]) -> Iterator[str]:
@@ -167,4 +189,5 @@ def status_lines(found: list[dict[str, Any] | None]) -> Iterator[str]:
             f" commit={it['commit']} batches={it['batches']} digest={it['digest'][:16]}"
             f" pending={it['pending']} heard={it['heard']} log={it['log_bytes'] >> 10}KB"
             + (" over" if it["is_over"] else "") + (" closing" if it["is_closing"] else "")
+            + (f" {it['stage']}" if it.get("stage", "running") != "running" else "")
         )

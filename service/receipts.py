@@ -12,27 +12,7 @@ from collections.abc import Callable, Iterable, Iterator, Sequence
 from dataclasses import dataclass, field
 from pathlib import Path
 
-from service.core import Tx, tx_of_text, tx_text
-
-
-class ReceiptLog:
-    """The file of one replica. What a peer tells again is noted once."""
-
-    def __init__(self, path: Path) -> None:
-        self.file = path.open("a", buffering=1)
-        self.file.write("start\n")
-        self.told: set[tuple[int, Tx]] = set()
-
-    def received(self, tx: Tx) -> None:
-        self.file.write(f"received {tx_text(tx)}\n")
-
-    def heard(self, peer: int, tx: Tx) -> None:
-        if (peer, tx) not in self.told:
-            self.told.add((peer, tx))
-            self.file.write(f"heard {peer} {tx_text(tx)}\n")
-
-    def close(self) -> None:
-        self.file.close()
+from service.core import Tx, tx_of_text
 
 
 @dataclass

@@ -7,7 +7,7 @@ from collections.abc import Iterable, Sequence
 from service import core
 from service.account import Account, Entry
 from service.config import Cluster
-from service.core import Arrived, Delivered, Tick, Tx
+from service.core import Arrived, Delivered, Reason, Tick, Tx
 
 MAGIC = b"THEMISR2"
 HEIGHT_CODES = {5: 1, 10: 2, 505: 3, 510: 4}
@@ -24,7 +24,7 @@ def list_bytes(txs: Sequence[Tx]) -> bytes:
 
 def is_in_trace(entry: Entry) -> bool:
     """Bytes that are no message are left out: they changed nothing."""
-    return entry.reason != core.BAD_WIRE
+    return entry.reason != Reason.BAD_WIRE
 
 
 def trace_of(cluster: Cluster, accounts: Sequence[Account], faulty: Iterable[int]) -> bytes:
@@ -59,6 +59,7 @@ def entry_bytes(entry: Entry) -> bytes:
             event = b"\2" + bytes([sender]) + u32(len(data)) + data
         case Tick(floor):
             event = b"\3" + u32(floor)
-    reason = 0 if entry.reason == core.DONE else entry.reason + FIRST_REASON - core.FOREIGN
+    is_done = entry.reason == Reason.DONE
+    reason = 0 if is_done else entry.reason + FIRST_REASON - Reason.FOREIGN
     sealed = b"".join(u32(len(it)) + it for it in entry.sealed)
     return event + bytes([reason]) + u32(entry.known) + bytes([len(entry.sealed)]) + sealed

@@ -12,7 +12,8 @@ from dataclasses import dataclass, field
 
 FAULT_NAMES = {
     "kill": "kills", "tear": "torn writes", "cut": "cuts", "one_way": "one-way cuts",
-    "slow": "slow disks", "full": "full disks",
+    "slow": "slow disks", "full": "full disks", "change": "kills at a change of session",
+    "step": "deaths at a step of a change", "away": "away over two changes", "lost": "lost logs",
 }
 NO_AUDIT = "none"
 
@@ -54,6 +55,8 @@ class Outcome:
     equivocations: int = 0
     verdict: str = NO_AUDIT             # one word: yes, or what the proved audit found
     broken: int = 0                     # checks
+    sessions: int = 0                   # that followed one another, and were audited
+    without: int = 0                    # of these, without the account of one replica
     reuse: Reuse | None = None          # of runs that drop records on purpose
     has_passed: bool = False
     details: tuple[str, ...] = ()       # for a reader; not in the line
@@ -64,11 +67,13 @@ class Outcome:
         words = [f"seed={self.seed}", f"faulty={who}"]
         words += [f"{fault}={count}" for fault, count in self.faults.items()]
         words += [
-            f"burst={self.burst}", f"final={self.final}", f"median={self.median:.3f}s", f"p99={self.p99:.3f}s",
-            f"settled={yes_or_no(self.is_settled)}", f"pairs={self.pairs}",
+            f"burst={self.burst}", f"final={self.final}", f"median={self.median:.3f}s",
+            f"p99={self.p99:.3f}s", f"settled={yes_or_no(self.is_settled)}", f"pairs={self.pairs}",
             f"seals={self.seals}", f"equivocations={self.equivocations}",
             f"audit={self.verdict}", f"broken={self.broken}",
         ]
+        if self.sessions:
+            words += [f"sessions={self.sessions}", f"without={self.without}"]
         if self.reuse is not None:
             it = self.reuse
             words += [f"dropped={it.records}", f"leaves={it.leaves}"]
@@ -107,6 +112,7 @@ def outcome_of(line: str) -> Outcome | None:
         pairs=int(pairs["pairs"]), seals=int(pairs["seals"]),
         equivocations=int(pairs["equivocations"]),
         verdict=pairs["audit"], broken=int(pairs["broken"]), reuse=reuse,
+        sessions=int(pairs.get("sessions", 0)), without=int(pairs.get("without", 0)),
         has_passed=pairs["passed"] == "yes",
     )
 
@@ -142,6 +148,10 @@ def rows_of(outcomes: Sequence[Outcome]) -> list[tuple[str, str]]:
         ("runs in which the proved audit found nothing", f"{found_nothing:,}"),
         ("broken checks", total(it.broken for it in outcomes)),
     ]
+    if sessions := sum(it.sessions for it in outcomes):
+        without = total(it.without for it in outcomes)
+        rows.insert(1, ("sessions that were audited",
+                        f"{sessions:,}, {without} of them without the account of one replica"))
     if reuses := [it.reuse for it in outcomes if it.reuse is not None]:
         rows.append(("records dropped on purpose", reuse_text(reuses)))
     if failed:
@@ -157,7 +167,7 @@ def faults_text(outcomes: Sequence[Outcome]) -> str:
     counts: Counter[str] = Counter()
     for it in outcomes:
         counts.update(it.faults)
-    return ", ".join(f"{counts[fault]:,} {name}" for fault, name in FAULT_NAMES.items())
+    return ", ".join(f"{counts[it]:,} {name}" for it, name in FAULT_NAMES.items() if counts[it])
 
 
 def deeds_text(outcomes: Sequence[Outcome]) -> str:

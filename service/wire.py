@@ -1,7 +1,7 @@
-"""What a host reads of the messages that it carries (docs/FORMATS.md, "Messages").
+"""What the audit of logs reads of messages (docs/FORMATS.md, "Messages").
 
-The core checks every message itself. This module only looks at fields that guards and the audit of
-logs need, and answers nothing for bytes that it does not understand.
+The core has checked every message that it accepted. This module looks at the fields that the audit
+needs, and answers nothing for bytes that it does not understand.
 """
 
 from __future__ import annotations
@@ -26,41 +26,10 @@ class Message(IntEnum):
     GIVE = 7
 
 
-BLOCK_AT = {Message.PROPOSE: 3, Message.GIVE: 2}     # where the block starts in a message
-
-
 def kind_of(data: bytes) -> Message | None:
     if len(data) < 2 or data[0] != VERSION or not 1 <= data[1] <= len(Message):
         return None
     return Message(data[1])
-
-
-def asked_view(data: bytes) -> int | None:
-    """The view that an Ask names; None for other messages."""
-    if kind_of(data) is not Message.ASK or len(data) < 7:
-        return None
-    return int.from_bytes(data[3:7], "big")
-
-
-def given_view(data: bytes) -> int | None:
-    """The view of the block in a Give; None for other messages."""
-    if kind_of(data) is not Message.GIVE or len(data) < 6:
-        return None
-    return int.from_bytes(data[2:6], "big")
-
-
-def fetched_digest(data: bytes) -> bytes | None:
-    """The digest of the block that a Fetch asks for; None for other messages."""
-    return data[2:2 + DIGEST] if kind_of(data) is Message.FETCH else None
-
-
-def block_views(data: bytes) -> tuple[int, int] | None:
-    """The view of the block in a Propose or a Give, and that of its parent; None for others."""
-    start = BLOCK_AT.get(kind_of(data) or Message.FETCH)
-    if start is None or len(data) < start + 8:
-        return None
-    at = data[start:start + 8]
-    return int.from_bytes(at[:4], "big"), int.from_bytes(at[4:], "big")
 
 
 @dataclass(frozen=True)

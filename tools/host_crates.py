@@ -1,4 +1,4 @@
-"""The crates and the library that the host in Rust is built with."""
+"""The crates and the library that the host is built with."""
 
 import os
 import pathlib
@@ -12,6 +12,8 @@ from common import TOP
 HOST = TOP / "host"
 DEBIAN = pathlib.Path("/usr/share/cargo/registry")
 OLDEST_CARGO = (1, 82)
+# What takes longer hangs. On a busy machine nothing may count as missing because it is slow.
+MAX_SECONDS = 1800
 # Crates that the host names, as Debian packages them.
 CRATES = (
     "bytes", "clap", "hyper", "libc", "rand", "rand-chacha", "rusqlite", "rustls-pemfile", "serde",
@@ -61,19 +63,19 @@ def resolves(cargo: list[str], host: pathlib.Path) -> bool:
     A lock file names the versions of one source alone, so none is kept in the repository.
     """
     (host / "Cargo.lock").unlink(missing_ok=True)
-    return succeeds([*cargo, "generate-lockfile"], 120, host)
+    return succeeds([*cargo, "generate-lockfile"], MAX_SECONDS, host)
 
 
 def links_sqlite(scratch: pathlib.Path) -> bool:
     """Whether the library of SQLite is there to be linked with."""
     made = ["-shared", "-x", "c", os.devnull, "-lsqlite3", "-o", str(scratch / "sqlite.so")]
-    return succeeds(["cc", *made], 60)
+    return succeeds(["cc", *made], MAX_SECONDS)
 
 
 def is_installed() -> bool:
     """Installs Debian's packages, and says whether that succeeds."""
-    succeeds(["apt-get", "update"], 300)
-    return succeeds(INSTALL, 600)
+    succeeds(["apt-get", "update"], MAX_SECONDS)
+    return succeeds(INSTALL, MAX_SECONDS)
 
 
 def cargo_version() -> tuple[int, int]:

@@ -20,11 +20,14 @@ import secrets
 import sys
 import tempfile
 from collections.abc import Callable, Iterable
-from dataclasses import dataclass, replace
+from dataclasses import replace
 from pathlib import Path
 
 import themis
-from themis import Held, Reason, Replica, Role, Standing, Status, Taken, ThemisError, Tx
+from themis import (
+    Arrived, Delivered, Event, Held, Reason, Replica, Role, Standing, Status, Taken, ThemisError,
+    Tick, Tx,
+)
 
 N = 5
 VIEWS = 20
@@ -39,37 +42,14 @@ MOST_TOLD = 100         # receipts at a time
 NO_STAMP = 1 << 63      # no honest clock reaches it
 
 
-@dataclass(frozen=True)
-class Arrived:
-    txs: list[Tx]
-
-
-@dataclass(frozen=True)
-class Delivered:
-    sender: int
-    data: bytes
-
-
-@dataclass(frozen=True)
-class Tick:
-    floor: int
-
-
-Event = Arrived | Delivered | Tick
-
-
 def prepare(replica: Replica, event: Event) -> bytes:
     """Prepares an event, and returns its record."""
-    match event:
-        case Arrived(txs):
-            return replica.prepare_arrived(txs)
-        case Delivered(sender, data):
-            changes = replica.would_change(sender, data)
-            record = replica.prepare_deliver(sender, data)
-            require(changes == bool(record), "an event that changes the replica has a record")
-            return record
-        case Tick(floor):
-            return replica.prepare_tick(floor)
+    if not isinstance(event, Delivered):
+        return replica.prepare(event)
+    changes = replica.would_change(event.sender, event.data)
+    record = replica.prepare(event)
+    require(changes == bool(record), "an event that changes the replica has a record")
+    return record
 
 
 def text_of(batch: list[Tx]) -> str:
@@ -142,7 +122,7 @@ class Host:
         txs, given = self.replica.arrive()
         require(given == 0, "no chain is stuck, so nothing is an exception")
         self.arrived += txs
-        return [Arrived(txs)] if txs else []
+        return [Arrived(tuple(txs))] if txs else []
 
     def settle(self) -> None:
         """What became final is no longer held."""

@@ -2,7 +2,7 @@
 
     with themis.Replica.open(role, secret, public_keys, log) as replica:
         # truncate the log file to replica.used bytes; where that is 0, write replica.header()
-        record = replica.prepare_deliver(sender, data)      # or prepare_arrived, prepare_tick
+        record = replica.prepare(event)                     # Arrived, Delivered or Tick
         # append the record to the log file, then fsync; an empty record needs neither
         reason = replica.act()                              # the turn
         for receiver, message in replica.sends():           # send each, in this order
@@ -43,13 +43,15 @@ from themis_library import (
     KEY_SIZE, CFinding, CReceipt, CReplica, CRole, CRun, CTx, Library, joined_keys, loaded, number,
     sized,
 )
-from themis_values import Held, Height, Reason, Role, Run, Standing, Taken, Tx
+from themis_values import (
+    Arrived, Delivered, Event, Held, Height, Reason, Role, Run, Standing, Taken, Tick, Tx,
+)
 
 __all__ = [
-    "Again", "BadTrace", "CorruptLog", "Finding", "Halted", "Held", "Height", "MissingFunction",
-    "NoHeader", "NoMemory", "OtherKeys", "OtherLog", "OtherRun", "Reason", "Replica", "Role",
-    "Run", "Standing", "Status", "Taken", "ThemisError", "TooLong", "Tx", "Unready", "Vacant",
-    "WrongSecret", "audit", "public_key",
+    "Again", "Arrived", "BadTrace", "CorruptLog", "Delivered", "Event", "Finding", "Halted", "Held",
+    "Height", "MissingFunction", "NoHeader", "NoMemory", "OtherKeys", "OtherLog", "OtherRun",
+    "Reason", "Replica", "Role", "Run", "Standing", "Status", "Taken", "ThemisError", "Tick",
+    "TooLong", "Tx", "Unready", "Vacant", "WrongSecret", "audit", "public_key",
 ]
 
 SECRET_SIZE = 48
@@ -175,6 +177,16 @@ class Replica:
     def prepare_tick(self, floor: int) -> bytes:
         """Prepares a tick: the pacemaker asks for a view above the replica's own and `floor`."""
         return self._prepare("themis_prepare_tick", number(floor))
+
+    def prepare(self, event: Event) -> bytes:
+        """Prepares an event that is given as a value, and returns its record."""
+        match event:
+            case Arrived(txs):
+                return self.prepare_arrived(txs)
+            case Delivered(sender, data):
+                return self.prepare_deliver(sender, data)
+            case Tick(floor):
+                return self.prepare_tick(floor)
 
     def would_change(self, sender: int, data: bytes) -> bool:
         """Whether the turn on these bytes, from replica `sender`, would change the replica now.

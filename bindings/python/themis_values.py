@@ -110,3 +110,31 @@ class Tx(NamedTuple):
     client: int
     number: int
     payload: int
+
+
+# ---- events
+
+
+@dataclass(frozen=True)
+class Arrived:
+    """Transactions that this replica received, in this order. Each arrives once."""
+
+    txs: tuple[Tx, ...]
+
+
+@dataclass(frozen=True)
+class Delivered:
+    """A message that replica `sender` sent."""
+
+    sender: int
+    data: bytes
+
+
+@dataclass(frozen=True)
+class Tick:
+    """Asks for a view above the replica's own and above `floor`."""
+
+    floor: int
+
+
+Event = Arrived | Delivered | Tick

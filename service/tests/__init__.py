@@ -1,7 +1,7 @@
 """Tests of the service: `python3 -m unittest discover service`.
 
-Those of guards run several cores in one process, with a queue for a network. Those of processes
-start real ones on loopback. All need the library.
+Most need the library. Those that start replicas on loopback need `themisd` too, and those with a
+faulty one `themisd-faulty`.
 """
 
 from __future__ import annotations
@@ -23,3 +23,13 @@ def why_no_library() -> str:
     except (OSError, ThemisError) as fault:
         return str(fault)
     return ""
+
+
+@cache
+def why_no_host() -> str:
+    """Why no replicas can be started; empty where they can."""
+    from service.program import FAULTY, program
+    if why := why_no_library():
+        return why
+    missing = [it for it in (program(), program().with_name(FAULTY)) if not it.exists()]
+    return f"there is no {missing[0]}: tools/build-host builds it" if missing else ""

@@ -4,7 +4,6 @@ from __future__ import annotations
 
 import asyncio
 import json
-import os
 import shutil
 import subprocess
 import tempfile
@@ -17,15 +16,15 @@ from service.audit import audit_session
 from service.client import Client, Load
 from service.folder import replica_ports, setups
 from service.making import Plan, held_ports, make, ports_of
-from service.processes import THEMISD, WITH_PARENT, start_all, stop_all
+from service.processes import WITH_PARENT, start_all, stop_all
+from service.program import program
 from service.status import Exit, ServiceError
-from service.tests import why_no_library
+from service.tests import why_no_host
 
-LIMIT = 600.0
-PROGRAM = Path(os.environ.get("THEMIS_HOST", THEMISD))
+LIMIT = 1800.0      # seconds of a wait, which ends once what it waits for is there
 
 
-@unittest.skipIf(why_no_library(), why_no_library())
+@unittest.skipIf(why_no_host(), why_no_host())
 class Accounts(unittest.TestCase):
     """A session in which ten transactions became final, and which is stopped."""
 
@@ -51,9 +50,7 @@ class Accounts(unittest.TestCase):
 
     def test_without_the_secret(self) -> None:
         """The audit finds the same, whether it has a replica's secret or its account."""
-        if not PROGRAM.exists():
-            self.skipTest("there is no themisd")
-        words = [PROGRAM, "account", self.session / "0.toml"]
+        words = [program(), "account", self.session / "0.toml"]
         made = subprocess.run(words, capture_output=True, text=True, timeout=LIMIT, check=True)
         secret = self.session / "0.secret"
         self.assertNotIn(secret.read_text(), made.stdout)

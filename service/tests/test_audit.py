@@ -5,47 +5,49 @@ from __future__ import annotations
 import tempfile
 import unittest
 from dataclasses import replace
+from functools import cache
 from pathlib import Path
 
 from service import log, wire
 from service.account import Account, Entry, committed_blocks, play
 from service.audit import Report, audit, check_leaves, check_lists, check_order, verdict_of
 from service.config import Cluster
-from service.core import DONE, REPEAT, Arrived, Delivered, Tick, Tx
+from service.core import Arrived, Delivered, Reason, Tick, Tx
 from service.forgetting import earlier_logs, forget, reuse_of
 from service.session_trace import entry_bytes, trace_of
-from service.signer import leaf_of
+from service.seals import leaf_of
 from service.tally import Reuse
 from service.tests import why_no_library
-from service.tests.simulation import HEIGHT, F, Host, N, Net
+from service.tests.cores import HEIGHT, VIEWS, F, Host, N, Net
 
 
 def txs(client: int, count: int) -> list[Tx]:
     return [Tx(client, number, 0) for number in range(count)]
 
 
-def ran(forgotten: int) -> tuple[Cluster, list[Account]]:
-    """The accounts of a run in one process, with a crash after 20 rounds."""
+@cache
+def ran() -> tuple[Cluster, list[Account]]:
+    """The accounts of a run in one process, with a crash in its middle."""
     net = started()
-    net.hosts[1].crash(forgotten)
+    net.hosts[1].crash(0)
     return ended(net)
 
 
 def started() -> Net:
-    """Five replicas after 20 rounds."""
+    """Five replicas with 20 final transactions."""
     net = Net()
     net.submit(txs(1, 20))
-    net.run(20)
+    net.run_until_final(20)
     return net
 
 
 def ended(net: Net) -> tuple[Cluster, list[Account]]:
-    """The accounts of all replicas after 60 rounds more."""
+    """The accounts of all replicas with 20 final transactions more."""
     net.submit(txs(2, 20))
-    net.run(60)
+    net.run_until_final(40)
     net.close()
     cluster = Cluster(
-        session=1, n=N, f=F, p=1, q=1, views=net.views, height=HEIGHT, peers=[], clients=[],
+        session=1, n=N, f=F, p=1, q=1, views=VIEWS, height=HEIGHT, peers=[], clients=[],
         publics=[it.hex() for it in net.publics], certificates=[],
     )
     return cluster, [account_of_host(net, it) for it in net.hosts]
@@ -60,7 +62,7 @@ class Audits(unittest.TestCase):
     """Logs of a run with a crash."""
 
     def test_a_run_with_a_crash_is_well(self) -> None:
-        cluster, accounts = ran(0)
+        cluster, accounts = ran()
         report, trace = audit(cluster, accounts, set(), False)
         self.assertEqual((report.broken, report.verdict), ([], "yes"))
         self.assertGreater(report.promised_pairs, 100)
@@ -70,7 +72,7 @@ class Audits(unittest.TestCase):
         self.assertEqual(len(trace), report.trace_bytes)
 
     def test_leaves_are_numbered_as_they_are_used(self) -> None:
-        cluster, accounts = ran(0)
+        cluster, accounts = ran()
         own = {
             (part.signer, leaf_of(part.seal, cluster.height)): part.statement
             for it in accounts for data in it.accepted() for part in wire.parts(data)
@@ -79,20 +81,20 @@ class Audits(unittest.TestCase):
             self.assertEqual(accounts[signer].statements[leaf], statement)
 
     def test_the_committed_chain_is_found_in_a_log(self) -> None:
-        _, accounts = ran(0)
+        _, accounts = ran()
         for it in accounts:
             views = [block.view for block in committed_blocks(it)]
             self.assertEqual((views[-1], views), (it.commit, sorted(views)))
 
     def test_a_trace_is_of_the_honest_alone(self) -> None:
-        cluster, accounts = ran(0)
+        cluster, accounts = ran()
         whole, part = trace_of(cluster, accounts, []), trace_of(cluster, accounts, [4])
         self.assertLess(len(part), len(whole))
         self.assertEqual(verdict_of(whole, cluster), ("yes", []))
         self.assertEqual(verdict_of(part, cluster), ("yes", [4]))
 
     def test_a_trace_of_another_run_is_refused(self) -> None:
-        cluster, accounts = ran(0)
+        cluster, accounts = ran()
         trace = trace_of(cluster, accounts, [])
         others = [
             replace(cluster, views=cluster.views + 1), replace(cluster, f=0),
@@ -128,25 +130,26 @@ class Forgetting(unittest.TestCase):
         self.assertTrue(all("of replica 1" in it for it in report.broken), report.broken)
         self.assertIn(f"names {reuse.accepted} of the {reuse.accepted}", reuse.text())
 
-    def forgot_a_tick(self, ticks: int) -> tuple[Reuse, Report]:
-        """Replica 1 asks for a view and forgets it; then it asks so many times. Its messages are
-        lost."""
+    def forgot_a_tick(self, views: int) -> tuple[Reuse, Report]:
+        """Replica 1 asks for a view and forgets it; then it asks for the one that comes so many views
+        later. Its messages are lost."""
         net = started()
         host = net.hosts[1]
-        host.take([Tick(0)])
+        view = host.core.view()
+        host.take([Tick(view)])
         before = account_of_host(net, host)
         host.crash(1)
-        host.take([Tick(0)] * ticks)
+        host.take([Tick(view + views)])
         net.sent.clear()
         return self.found(net, before, 1)
 
     def test_what_nobody_accepted_can_not_be_found(self) -> None:
-        reuse, report = self.forgot_a_tick(0)
+        reuse, report = self.forgot_a_tick(1)
         self.assertEqual((reuse, report.broken), (Reuse(1, 1, 0, 0), []))
         self.assertIn("no honest replica accepted one", reuse.text())
 
     def test_the_same_statement_again_is_no_reuse(self) -> None:
-        reuse, report = self.forgot_a_tick(1)
+        reuse, report = self.forgot_a_tick(0)
         self.assertEqual((reuse, report.broken), (Reuse(1, 0, 0, 0), []))
         self.assertIn("the same statement again", reuse.text())
 
@@ -173,7 +176,7 @@ class Traces(unittest.TestCase):
             publics=[key.hex()], certificates=[],
         )
         tx = Tx(1, 2, 3)
-        account = Account(0, [Entry(Arrived((tx,)), DONE, 1, [])], [tx])
+        account = Account(0, [Entry(Arrived((tx,)), Reason.DONE, 1, [])], [tx])
         trace = trace_of(cluster, [account], [])
         one = bytes.fromhex("00000001" "00000001" "00000002" "0000000000000003")
         self.assertEqual(trace[:19], b"THEMISR2" + bytes.fromhex("010000010001" "00000002" "01"))
@@ -185,7 +188,7 @@ class Traces(unittest.TestCase):
 
     def test_a_refused_message_has_the_reason_of_the_trace(self) -> None:
         event = Delivered(3, b"x")
-        self.assertEqual(entry_bytes(Entry(event, REPEAT, 5, [b"ab"])), bytes.fromhex(
+        self.assertEqual(entry_bytes(Entry(event, Reason.REPEAT, 5, [b"ab"])), bytes.fromhex(
             "02" "03" "00000001" "78" "11" "00000005" "01" "00000002" "6162"))
 
 
@@ -216,13 +219,12 @@ class Orders(unittest.TestCase):
     """A list whose order was turned."""
 
     def test_an_order_that_was_promised_and_is_not_kept(self) -> None:
-        cluster, accounts = ran(0)
+        cluster, accounts = ran()
         report = Report()
         check_order(report, cluster, accounts, 0)
         self.assertEqual(report.broken, [])
-        for it in accounts:
-            it.batches.reverse()
-        check_order(report, cluster, accounts, 0)
+        turned = [replace(it, batches=it.batches[::-1]) for it in accounts]
+        check_order(report, cluster, turned, 0)
         self.assertTrue(report.broken)
 
 

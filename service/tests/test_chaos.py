@@ -7,7 +7,8 @@ import tempfile
 import unittest
 from pathlib import Path
 
-from service.chaos import Weather, names_of, perform_all
+from service import chaos, chaos_sessions
+from service.runs import Weather, names_of, perform_all
 
 
 class Command(unittest.TestCase):
@@ -22,12 +23,14 @@ class Command(unittest.TestCase):
                 read(text)
 
     def test_a_run_that_ends_by_a_fault_is_reported_and_others_go_on(self) -> None:
-        with tempfile.NamedTemporaryFile() as no_folder:
-            outcomes = list(perform_all(Path(no_folder.name), [Weather(1), Weather(2)], 2))
-        self.assertEqual(sorted(it.seed for it in outcomes), [1, 2])
-        for it in outcomes:
-            self.assertFalse(it.has_passed)
-            self.assertIn("NotADirectoryError", it.text())
+        for perform in (chaos.perform, chaos_sessions.perform):
+            with tempfile.NamedTemporaryFile() as no_folder:
+                at, both = Path(no_folder.name), [Weather(1), Weather(2)]
+                outcomes = list(perform_all(perform, at, both, 2))
+            self.assertEqual(sorted(it.seed for it in outcomes), [1, 2])
+            for it in outcomes:
+                self.assertFalse(it.has_passed)
+                self.assertIn("NotADirectoryError", it.text())
 
 
 if __name__ == "__main__":

@@ -16,18 +16,17 @@ from service.folder import replica_ports
 from service.identities import make_client
 from service.making import Plan, held_ports, make, ports_of
 from service.ports import Port
-from service.processes import WITH_PARENT, host_words, start_all, statuses, stop_all
-from service.config import Config
+from service.processes import WITH_PARENT, start_all, statuses, stop_all
 from service.status import Exit, ServiceError
-from service.tests import why_no_library
+from service.tests import why_no_host
 
-LIMIT = 600.0
+LIMIT = 1800.0      # seconds of a wait, which ends once what it waits for is there
 JUNK = 9        # a client that submits other transactions to each replica
-JUNK_LANES, JUNK_LINE, JUNK_SECONDS = 8, 200, 2
+JUNK_LANES, JUNK_LINE = 8, 200
 QUOTA = 1000    # of a client, at a replica
 
 
-@unittest.skipIf(why_no_library(), why_no_library())
+@unittest.skipIf(why_no_host(), why_no_host())
 class Clients(unittest.TestCase):
     """Five replicas with TLS."""
 
@@ -39,8 +38,6 @@ class Clients(unittest.TestCase):
         for it in held:
             cls.addClassCleanup(it.close)
         cls.session = make(cls.folder, Plan(views=2600, height=510, ports=ports_of(held)))
-        words = host_words(Config.load(cls.session / "0.toml"))
-        cls.is_python = words[-1] == "service.replica"
         cls.started = start_all(cls.session, WITH_PARENT)
         cls.addClassCleanup(cls.stop)
         cls.ports = replica_ports(cls.session)
@@ -106,12 +103,15 @@ class Clients(unittest.TestCase):
         for line in ("status", "close", "fault full"):
             self.assertEqual(asyncio.run(self.ports[0].ask(line)), "bad no such command")
         self.assertEqual(asyncio.run(self.ports[0].order("fault full")), "bad no such command")
-        self.assertIsNone(json.loads(asyncio.run(self.ports[0].order("status")))["fault"])
+        asyncio.run(self.wait_healthy(self.ports[0]))
+
+    async def wait_healthy(self, at: Port) -> None:
+        """Until a replica says that it is healthy. On a busy machine it may hear too few others."""
+        async with asyncio.timeout(LIMIT):
+            while json.loads(await at.order("status"))["fault"] is not None:
+                await asyncio.sleep(0.1)
 
     def test_3_followers_keep_nobody_out(self) -> None:
-        if self.is_python:
-            self.skipTest("the host in Python does not count followers apart")
-
         async def follow(at: Port, client: int) -> bool:
             """Whether a connection follows; it stays open."""
             reader, writer = await at.open(client)
@@ -134,10 +134,9 @@ class Clients(unittest.TestCase):
 
     def test_4_junk_of_one_client_starves_nobody(self) -> None:
         """One client submits to each replica as much as is taken, others to each; and then another
-        client submits 20, which do not wait for more than the quota of the first."""
-        if self.is_python:
-            self.skipTest("the host in Python has no quotas")
-
+        client submits 20, which do not wait for more than the quota of the first. A replica that is
+        behind has taken more of its peers, in place of what is final there, so it is given time;
+        without a quota each would hold 16,000 by then."""
         numbers = itertools.count()
 
         async def junk(replica: int) -> None:
@@ -147,25 +146,30 @@ class Clients(unittest.TestCase):
                 texts = " ".join(f"{JUNK}.{next(numbers)}.0" for _ in range(JUNK_LINE))
                 writer.write(f"submit {texts}\n".encode())
                 answer = (await reader.readline()).decode()
+                if not answer:
+                    return
                 if answer == "busy\n":
-                    self.busy += 1
+                    busy.add(replica)
                     await asyncio.sleep(0.05)
 
-        async def attack() -> int:
-            """The most that waited at a replica before the other client came."""
+        async def is_full() -> bool:
+            """Whether no more was taken at each, and little more than the quotas of all waits."""
+            found = [it["queued"] if it else None for it in await statuses(self.session)]
+            return len(busy) == 5 and all(it is not None and it < 6 * QUOTA for it in found)
+
+        async def attack() -> None:
             tasks = [asyncio.create_task(junk(it)) for it in range(5) for _ in range(JUNK_LANES)]
-            await asyncio.sleep(JUNK_SECONDS)
-            waiting = [it["queued"] for it in await statuses(self.session) if it]
+            async with asyncio.timeout(LIMIT):
+                while not await is_full():
+                    await asyncio.sleep(0.1)
             client = Client(self.ports, 1, Load([f"1.{k}.1" for k in range(1000, 1020)], 100))
             self.assertTrue(await client.run(LIMIT), client.summary())
+            self.assertFalse(any(it.done() for it in tasks))        # it was in the way all the time
             for task in tasks:
                 task.cancel()
             await asyncio.gather(*tasks, return_exceptions=True)
-            return max(waiting)
-        self.busy = 0
-        waiting = asyncio.run(attack())
-        self.assertGreater(self.busy, 0)
-        self.assertLessEqual(waiting, 5 * QUOTA + 20)
+        busy: set[int] = set()      # replicas that took no more
+        asyncio.run(attack())
 
 
 if __name__ == "__main__":

@@ -20,7 +20,7 @@ from service.processes import PIDS
 from service.status import Exit
 from service.tests import why_no_library
 
-MAKE = ["make", "--plain", "--views", "6", "--height", "5"]
+MAKE = ["make", "--one-session", "--plain", "--views", "6", "--height", "5"]
 
 
 @unittest.skipIf(why_no_library(), why_no_library())

@@ -11,6 +11,7 @@ from http.server import BaseHTTPRequestHandler, ThreadingHTTPServer
 
 from service.http_client import Refused, Replica, run
 
+LIMIT = 600.0
 BATCHES = [["1.1.0"], ["1.2.0", "2.1.0"], ["1.3.0"]]
 
 
@@ -93,7 +94,7 @@ class Calls(unittest.TestCase):
 
     def test_two_replicas_are_followed_over_broken_connections(self) -> None:
         with played() as one, played() as two:
-            self.assertTrue(run(lambda _: [one, two], 1, ["1.1.0", "1.3.0"], 0, 60))
+            self.assertTrue(run(lambda _: [one, two], 1, ["1.1.0", "1.3.0"], 0, LIMIT))
             self.assertEqual(Played.submitted, [["1.1.0", "1.3.0"]] * 2)
             # Two reports are needed, and one replica alone reports each batch once.
             self.assertFalse(run(lambda _: [one], 1, ["1.1.0"], 0, 2))

@@ -16,6 +16,11 @@ PLAIN = Outcome(
     pairs=10, seals=7, verdict="yes", has_passed=True,
 )
 ENDED = Outcome(seed=3, details=("ServiceError: replica 4 does not start",))
+SESSIONS = Outcome(
+    seed=5, faulty=0, deeds=("two_keys",), faults={"step": 2, "lost": 1}, final=450, median=0.5,
+    p99=1.5, is_settled=True, pairs=90, seals=80, verdict="yes", sessions=7, without=3,
+    has_passed=True,
+)
 DROPPED = Outcome(
     seed=4, faults={"kill": 2}, final=9, median=0.5, p99=0.75, is_settled=True, verdict="forged",
     broken=3, reuse=Reuse(20, 7, 3, 0), has_passed=True,
@@ -26,7 +31,7 @@ class Lines(unittest.TestCase):
     """What a line says is read back."""
 
     def test_lines_are_read_back(self) -> None:
-        for it in (GOOD, PLAIN, DROPPED):
+        for it in (GOOD, PLAIN, SESSIONS, DROPPED):
             self.assertEqual(outcome_of(it.line()), it)
         read = outcome_of(ENDED.line())
         assert read is not None
@@ -46,8 +51,7 @@ class Tables(unittest.TestCase):
             "| Of all runs | |",
             "| --- | --- |",
             "| runs that passed | 2 of 3 |",
-            "| faults | 3 kills, 0 torn writes, 0 cuts, 1 one-way cuts, 0 slow disks,"
-            " 1 full disks |",
+            "| faults | 3 kills, 1 one-way cuts, 1 full disks |",
             "| runs with a faulty replica | 1: forge 1, two_heads 1 |",
             "| runs with a burst | 0 |",
             "| transactions final | 500 |",
@@ -63,6 +67,13 @@ class Tables(unittest.TestCase):
     def test_what_was_dropped_on_purpose_has_a_row(self) -> None:
         self.assertIn("| records dropped on purpose | 20; leaves that sealed another statement"
                       " before 7, accepted 3, not found 0 |", table([DROPPED]))
+
+    def test_sessions_have_a_row(self) -> None:
+        lines = table([SESSIONS, SESSIONS])
+        self.assertIn("| sessions that were audited | 14, 6 of them without the account of one"
+                      " replica |", lines)
+        self.assertIn("| faults | 4 deaths at a step of a change, 2 lost logs |", lines)
+        self.assertNotIn("sessions", table([GOOD]))
 
     def test_no_runs(self) -> None:
         self.assertIn("| runs that passed | 0 of 0 |", table([]))

@@ -21,7 +21,8 @@ from common import TOP  # noqa: E402
 C = TOP / "bindings/c"
 PYTHON = TOP / "bindings/python"
 RUST = TOP / "bindings/rust"
-MAX_SECONDS = 300
+# What takes longer hangs.
+MAX_SECONDS = 3600
 
 WARNINGS = ["-std=c11", "-Wall", "-Wextra", "-Wpedantic", "-Wshadow", "-Werror"]
 SANITIZERS = ["-g", "-fsanitize=address,undefined", "-fno-sanitize-recover=all"]

@@ -148,6 +148,32 @@ fn a_flood_of_receipts_is_dropped_and_counted() {
 }
 
 /// Once a proposal is out, the replica goes to the next view, and has the next one.
+/// Its next turn enters a view, and sends a proposal.
+fn proposes(it: &mut Engine<Played>, view: u32) {
+    it.core_mut().left = view;
+    it.core_mut().sends = vec![Message { to: 1, bytes: vec![2, 4, 0] }];
+    hears(it, 1, message(VOTE));
+}
+
+#[test]
+fn a_held_proposal_goes_out_in_its_moment() {
+    let mut it = engine(Options::default());
+    opened(&mut it);
+    it.take(Input::Submit { ticket: 1, txs: burst()[..20].to_vec() }, NOW).unwrap();
+    work(&mut it, NOW);
+    let _ = it.outputs();
+    for view in 0..13 {
+        proposes(&mut it, view);
+        work(&mut it, NOW);
+    }
+    work(&mut it, NOW + Duration::from_millis(20));
+    assert_eq!(messages_sent(&mut it), 12, "those that are free");
+    let at = it.wake_at();
+    assert!(at < NOW + Duration::from_millis(26), "before the next regular look");
+    work(&mut it, at);
+    assert_eq!(messages_sent(&mut it), 1);
+}
+
 #[test]
 fn proposals_are_paced() {
     let mut it = engine(Options::default());
@@ -157,9 +183,7 @@ fn proposals_are_paced() {
     let (mut made, mut sent) = (0, 0);
     for step in 1..=100 {
         if made == sent {
-            it.core_mut().left = made as u32;
-            it.core_mut().sends = vec![Message { to: 1, bytes: vec![2, 4, 0] }];
-            hears(&mut it, 1, message(VOTE));
+            proposes(&mut it, made as u32);
             made += 1;
         }
         work(&mut it, NOW + Duration::from_millis(10 * step));

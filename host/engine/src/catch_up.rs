@@ -16,7 +16,11 @@ const PATIENCE: Duration = Duration::from_secs(1);
 /// Without a commit for so long, others may be ahead.
 const BEHIND_AFTER: Duration = Duration::from_millis(400);
 /// Views; a replica that is so far behind asks without such a pause.
-const FAR: u32 = 10;
+pub const FAR: u32 = 10;
+/// Blocks that a peer gives in answer to a request, at most.
+pub const MAX_BLOCKS: usize = 32;
+/// Blocks of a peer that are expected at a time: two answers.
+const MAX_EXPECTED: usize = 2 * MAX_BLOCKS;
 /// Of Fetches to a peer: what they bring can be stored only where a single block is missing.
 const FETCH_RATE: f64 = 2.0;
 const FETCH_BURST: f64 = 8.0;
@@ -37,6 +41,8 @@ struct OfPeer {
     /// The greatest view of a block that it gave.
     given: u32,
     fetches: Budget,
+    /// Blocks that it was asked for and has not given.
+    expected: usize,
 }
 
 /// Where this replica stands while it looks for blocks.
@@ -64,13 +70,13 @@ pub struct Request {
 impl CatchUp {
     /// Nothing was asked of the n replicas yet.
     pub fn new(n: u32) -> CatchUp {
-        let one =
-            |_| OfPeer { asked_at: None, given: 0, fetches: Budget::new(FETCH_RATE, FETCH_BURST) };
+        let fetches = Budget::new(FETCH_RATE, FETCH_BURST);
+        let one = |_| OfPeer { asked_at: None, given: 0, fetches, expected: 0 };
         CatchUp { of_peer: (0..n).map(one).collect(), turn: 0, stepped_at: None, last: None }
     }
 
     fn is_far(commit: u32, reached: u32) -> bool {
-        reached > commit + FAR
+        reached > commit.saturating_add(FAR)
     }
 
     /// Asks one of the peers that are ahead, each in its turn. Not while the answer of the one
@@ -119,6 +125,7 @@ impl CatchUp {
             return None;
         }
         it.asked_at = Some(now);
+        it.expected = (it.expected + MAX_BLOCKS).min(MAX_EXPECTED);
         Some(Request { peer, above: commit.max(it.given) })
     }
 
@@ -131,7 +138,19 @@ impl CatchUp {
 
     /// Whether a Fetch of the core goes out.
     pub fn may_fetch(&mut self, peer: u32, now: Time) -> bool {
-        self.of_peer[peer as usize].fetches.take(1.0, now)
+        let it = &mut self.of_peer[peer as usize];
+        let may = it.fetches.take(1.0, now);
+        it.expected = (it.expected + usize::from(may)).min(MAX_EXPECTED);
+        may
+    }
+
+    /// Whether a block that a peer gives was asked for; it counts as given then. An honest peer gives
+    /// no others. To check one costs more than any other message, and a faulty peer has any number.
+    pub fn expects(&mut self, peer: u32) -> bool {
+        let expected = &mut self.of_peer[peer as usize].expected;
+        let is_expected = *expected > 0;
+        *expected -= usize::from(is_expected);
+        is_expected
     }
 }
 
@@ -163,5 +182,57 @@ mod tests {
         assert_eq!(it.follow_orphan(3, 5, 7, now), Some(Request { peer: 3, above: 5 }));
         assert_eq!(it.follow_orphan(3, 5, 7, now), None);
         assert_eq!(it.follow_orphan(4, 5, 50, now), None);
+    }
+
+    #[test]
+    fn what_a_peer_gives_says_nothing_of_others() {
+        let (mut it, now) = (CatchUp::new(5), Time::default());
+        it.take(4, 103, true);
+        it.take(2, 30, true);
+        let above = |it: &mut CatchUp, peer, now| it.ask(peer, 5, now).map(|it| it.above);
+        let found = [1, 2, 3, 4].map(|peer| above(&mut it, peer, now));
+        assert_eq!(found, [Some(5), Some(30), Some(5), Some(103)]);
+        it.take(2, 60, false); // its parent is missing
+        assert_eq!(above(&mut it, 2, now + ASK_EVERY * 2), Some(5));
+    }
+
+    #[test]
+    fn only_blocks_that_were_asked_for_are_expected() {
+        let (mut it, now) = (CatchUp::new(5), Time::default());
+        let taken = |it: &mut CatchUp, peer| (0..100).filter(|_| it.expects(peer)).count();
+        assert_eq!(taken(&mut it, 1), 0);
+        it.ask(1, 5, now);
+        assert_eq!((taken(&mut it, 2), taken(&mut it, 1)), (0, MAX_BLOCKS));
+        assert!(it.may_fetch(1, now));
+        assert_eq!(taken(&mut it, 1), 1);
+        for step in 1..9 {
+            it.ask(1, 5, now + ASK_EVERY * 2 * step);
+        }
+        assert_eq!(taken(&mut it, 1), MAX_EXPECTED);
+    }
+
+    #[test]
+    fn orphans_of_one_peer_keep_no_other_from_being_asked() {
+        let (mut it, start) = (CatchUp::new(5), Time::default());
+        let near = Behind { commit: 95, commit_at: start, reached: 100, ahead: vec![1, 2, 3, 4] };
+        let mut asked = [0; 5];
+        for step in 0..2000 {
+            let now = start + Duration::from_millis(step * 10);
+            it.follow_orphan(4, near.commit, near.reached, now);
+            if step % 25 == 0 {
+                it.step(&near, |_| false, now).into_iter().for_each(|it| {
+                    asked[it.peer as usize] += 1;
+                });
+            }
+        }
+        assert!(asked[1..4].iter().all(|it| *it > 5), "{asked:?}");
+    }
+
+    #[test]
+    fn fetches_of_the_core_go_out_at_a_bounded_rate() {
+        let (mut it, start) = (CatchUp::new(5), Time::default());
+        let sent =
+            (0..1000).filter(|step| it.may_fetch(1, start + Duration::from_millis(step * 10)));
+        assert!((26..=29).contains(&sent.count())); // 8 and ten seconds of 2
     }
 }

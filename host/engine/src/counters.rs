@@ -11,6 +11,8 @@ const REASONS: usize = 14;
 pub struct Counters {
     /// Ticks that were asked for.
     pub ticks: u64,
+    /// Of these, ticks to a view that an honest peer had reached.
+    pub joins: u64,
     /// Events that had to be prepared again.
     pub again: u64,
     /// Requests for blocks.
@@ -46,7 +48,7 @@ impl Counters {
     /// All counts are 0.
     pub fn new(n: u32) -> Counters {
         let peers = vec![OfPeer::default(); n as usize];
-        Counters { ticks: 0, again: 0, blocks_asked: 0, reasons: [0; REASONS], peers }
+        Counters { ticks: 0, joins: 0, again: 0, blocks_asked: 0, reasons: [0; REASONS], peers }
     }
 
     /// Counts a turn.
@@ -61,8 +63,12 @@ impl Counters {
 
     /// All counts.
     pub fn all(&self) -> Vec<Count> {
-        let own =
-            [("ticks", self.ticks), ("again", self.again), ("blocks asked", self.blocks_asked)];
+        let own = [
+            ("ticks", self.ticks),
+            ("joins", self.joins),
+            ("again", self.again),
+            ("blocks asked", self.blocks_asked),
+        ];
         let none = Count { name: "", peer: None, reason: None, value: 0 };
         let mut out: Vec<Count> =
             own.into_iter().map(|(name, value)| Count { name, value, ..none }).collect();

@@ -6,7 +6,7 @@ use bytes::Bytes;
 use sha2::{Digest, Sha256};
 use themis::{Error, Message, Tx};
 
-use crate::catch_up::{CatchUp, Request};
+use crate::catch_up::{CatchUp, Request, MAX_BLOCKS};
 use crate::clients::{Answer, Clients, Ticket};
 use crate::core::{event_of, records, Core, Delivered, Desk, Event, Watched};
 use crate::counters::Counters;
@@ -32,9 +32,6 @@ pub(crate) const ANNOUNCE_EVERY: Duration = Duration::from_millis(20);
 const GOSSIP_EVERY: Duration = Duration::from_millis(250);
 /// After a start, receipts wait for so long for the clocks of peers.
 const OPEN_AFTER: Duration = Duration::from_secs(1);
-/// Blocks of one answer to a peer that is behind.
-pub(crate) const MAX_BLOCKS: usize = 32;
-
 /// What happened.
 #[derive(Clone, Debug)]
 pub enum Input {
@@ -118,6 +115,8 @@ pub struct Engine<C> {
     pub(crate) peers: Peers,
     pub(crate) pacemaker: Pacemaker,
     pub(crate) pace: ViewPace,
+    /// When a held proposal that is wanted may go out.
+    release_at: Option<Time>,
     pub(crate) hold: Hold,
     pub(crate) shown: Shown,
     pub(crate) asks: EarlyAsks,
@@ -193,6 +192,7 @@ impl<C: Core> Engine<C> {
             peers: Peers::new(place.n, place.me, place.f),
             pacemaker: Pacemaker::new(place, &options, now),
             pace: ViewPace::new(options.pace),
+            release_at: None,
             hold: Hold::new(&options, now),
             shown: Shown::default(),
             asks: EarlyAsks::default(),
@@ -282,7 +282,8 @@ impl<C: Core> Engine<C> {
 
     /// When [`Engine::prepare`] is to be called at the latest.
     pub fn wake_at(&self) -> Time {
-        self.timers.pace.min(self.timers.announce).min(self.timers.gossip)
+        let regular = self.timers.pace.min(self.timers.announce).min(self.timers.gossip);
+        self.release_at.map_or(regular, |at| at.min(regular))
     }
 
     /// The core, for a test or a simulator.
@@ -297,6 +298,8 @@ impl<C: Core> Engine<C> {
     pub(crate) fn run_timers(&mut self, now: Time) -> Result<(), Error> {
         if is_due(&mut self.timers.pace, PACE_EVERY, now) {
             self.keep_pace(now)?;
+        } else if self.release_at.is_some_and(|at| at <= now) {
+            self.release(now);
         }
         if is_due(&mut self.timers.announce, ANNOUNCE_EVERY, now) {
             self.announce(now)?;
@@ -327,7 +330,7 @@ impl<C: Core> Engine<C> {
     }
 
     /// Whether clients have to wait for the next session.
-    pub(crate) fn is_over(&self) -> bool {
+    pub fn is_over(&self) -> bool {
         self.intake.is_full() || self.pacemaker.is_over(self.standing(), &self.peers)
     }
 
@@ -342,21 +345,21 @@ impl<C: Core> Engine<C> {
         if let Some(floor) = self.pacemaker.due_floor(own, &self.peers, is_wanted, now) {
             self.turns.tick = Some((self.core.view, floor));
             self.counters.ticks += 1;
+            self.counters.joins += u64::from(self.peers.view_reached() > own.view);
         }
         Ok(())
     }
 
     pub(crate) fn release(&mut self, now: Time) {
+        self.release_at = None;
         if self.hold.is_empty() {
             return;
         }
         let waiting = if self.is_cut() { 0 } else { self.intake.queued() };
-        let wish = Wish {
-            is_wanted: self.is_wanted(now),
-            is_due: self.pace.is_due(waiting, now),
-            idle_views: self.core.view.saturating_sub(self.finals.view),
-        };
-        let sends = self.hold.release(wish, now);
+        let (is_wanted, is_due) = (self.is_wanted(now), self.pace.is_due(waiting, now));
+        self.release_at = (is_wanted && !is_due).then(|| self.pace.due_at());
+        let idle_views = self.core.view.saturating_sub(self.finals.view);
+        let sends = self.hold.release(Wish { is_wanted, is_due, idle_views }, now);
         self.send_all(sends, now);
     }
 

@@ -136,6 +136,22 @@ mod tests {
     }
 
     #[test]
+    fn the_interval_between_proposals() {
+        let options = Options { interval: Duration::from_millis(100), ..Options::default() };
+        let mut hold = Hold::new(&options, Time::default());
+        let mut count = 0;
+        for step in 0..100 {
+            let now = Time::default() + Duration::from_millis(step * 10);
+            hold.put(vec![Message { to: 1, bytes: vec![2, 4] }], false);
+            if !hold.release(WANTED, now).is_empty() {
+                hold.proposed(now);
+                count += 1;
+            }
+        }
+        assert_eq!(count, 9);
+    }
+
+    #[test]
     fn a_stuck_session_slows_down() {
         let mut hold = held(&Options::default(), false);
         let stuck = Wish { idle_views: STUCK_VIEWS + 1, ..WANTED };

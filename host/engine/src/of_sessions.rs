@@ -5,8 +5,11 @@ use themis::{Error, Standing, Tx};
 use crate::clients::Clients;
 use crate::core::{Core, Desk};
 use crate::engine::Engine;
+use crate::intake::Waiting;
+use crate::sessions::doubles::{Search, Searched};
 use crate::sessions::keys::PublicKey;
 use crate::sessions::running::Session;
+use crate::time::Time;
 use crate::window::Check;
 
 impl<C: Core> Engine<C> {
@@ -44,10 +47,24 @@ impl<C: Core> Engine<C> {
         Ok(())
     }
 
+    /// What the core sent in a turn that was made ahead of the session.
+    pub(crate) fn send_first(&mut self, now: Time) -> Result<(), Error> {
+        let sends = self.core.core.sends()?;
+        self.send_all(sends, now);
+        Ok(())
+    }
+
     /// The operator wants the session to end.
     pub(crate) fn want_end(&mut self) {
         if let Some(session) = &mut self.session {
             session.want_end();
+        }
+    }
+
+    /// A peer says that it has no part in the session.
+    pub(crate) fn let_in(&mut self, peer: u32) {
+        if let Some(session) = &mut self.session {
+            session.let_in(peer);
         }
     }
 
@@ -59,12 +76,30 @@ impl<C: Core> Engine<C> {
     }
 
     /// Whether a client's transaction may be taken. What is known here is.
-    pub(crate) fn check(&mut self, tx: &Tx) -> Result<Check, Error> {
+    pub fn check(&mut self, tx: &Tx) -> Result<Check, Error> {
         let check = self.session.as_ref().map_or(Check::New, |it| it.check(tx));
         let is_known = check != Check::New
             && check != Check::Reserved
             && self.core.core.desk().standing(tx)? != Standing::Unknown;
         Ok(if is_known { Check::New } else { check })
+    }
+
+    /// What the store is asked now: whether transactions that peers report are final.
+    pub(crate) fn search(&mut self, now: Time) -> Option<Search> {
+        self.session.as_mut()?.search(now)
+    }
+
+    /// What is not final is received as any other. While receipts are not stamped it is dropped, and
+    /// peers report it again.
+    pub(crate) fn take_searched(&mut self, searched: Searched) -> Result<(), Error> {
+        let Some(session) = &mut self.session else { return Ok(()) };
+        let open = session.take_searched(searched);
+        if self.intake.is_open() {
+            for (peer, receipt) in open {
+                self.intake.hear_receipts(self.core.core.desk(), peer, &[receipt])?;
+            }
+        }
+        Ok(())
     }
 
     /// Chains all final batches.
@@ -93,18 +128,19 @@ impl<C: Core> Engine<C> {
     }
 
     /// What was received and has not arrived, and the clients that wait for it.
-    pub(crate) fn take_waiting(&mut self) -> Result<(Vec<Tx>, Clients), Error> {
+    pub(crate) fn take_waiting(&mut self) -> Result<(Vec<Waiting>, Clients), Error> {
         self.answer_clients()?;
         let waiting = self.intake.waiting(self.core.core.desk())?;
-        let is_of_client = |it: &Tx| !crate::sessions::reserved::is_reserved(it.client);
+        let is_of_client = |it: &Waiting| !crate::sessions::reserved::is_reserved(it.tx.client);
         let waiting = waiting.into_iter().filter(is_of_client).collect();
         Ok((waiting, std::mem::take(&mut self.clients)))
     }
 
     /// What waited in the session before, and its clients.
-    pub(crate) fn resume(&mut self, waiting: &[Tx], clients: Clients) -> Result<(), Error> {
-        self.intake.submit(self.core.core.desk(), waiting)?;
+    pub(crate) fn resume(&mut self, waiting: &[Waiting], clients: Clients) -> Result<(), Error> {
         self.clients = clients;
+        self.intake.resume(self.core.core.desk(), waiting)?;
+        self.refuse_what_found_no_room();
         Ok(())
     }
 }

@@ -32,6 +32,16 @@ impl Own {
         }
     }
 
+    /// How many wait.
+    pub fn len(&self) -> usize {
+        self.waiting.len()
+    }
+
+    /// Whether a client submitted it here.
+    pub fn has(&self, tx: &Tx) -> bool {
+        self.waiting.contains(tx)
+    }
+
     /// Whether each client has at most so many waiting with these, which may be known already.
     pub fn has_room(&self, txs: &[Tx], most: usize) -> bool {
         let mut counts: HashMap<u32, usize> = HashMap::new();

@@ -1,5 +1,7 @@
 //! How fast views follow one another.
 
+use std::time::Duration;
+
 use crate::budget::Budget;
 use crate::setting::PaceOptions;
 use crate::time::Time;
@@ -7,20 +9,27 @@ use crate::time::Time;
 /// Views are few, and each is used for good. So they are paced: a few in a row are free, so that a
 /// transaction after a pause is final as soon as it can be; from then on they follow one another at
 /// a rate which depends on how much waits. A lone client, or the junk of a faulty replica, can't use
-/// up a session's views in a minute.
+/// up a session's views in a minute. A proposal that shows the others what is final is not held back
+/// by it, so under load views follow one another as fast as the cluster can.
 ///
 /// Each honest leader goes by what it saw. A faulty one can only hurry its own views.
 #[derive(Debug)]
 pub struct ViewPace {
     options: PaceOptions,
     views: Budget,
+    /// When the next view may begin, where it might not when that was asked last.
+    due_at: Time,
 }
+
+/// What is rounded.
+const MOMENT: Duration = Duration::from_micros(10);
 
 impl ViewPace {
     /// All free views are left.
     pub fn new(options: PaceOptions) -> ViewPace {
         let rate = 1.0 / options.floor.as_secs_f64().max(1e-6);
-        ViewPace { options, views: Budget::new(rate, f64::from(options.free)) }
+        let views = Budget::new(rate, f64::from(options.free));
+        ViewPace { options, views, due_at: Time::default() }
     }
 
     /// The replica went to a later view. Nothing is owed for views that passed faster: a replica that
@@ -31,16 +40,32 @@ impl ViewPace {
 
     /// Whether the next view may begin, while that many transactions wait.
     pub fn is_due(&mut self, waiting: usize, now: Time) -> bool {
-        let floor =
-            if waiting >= self.options.much { self.options.floor } else { self.options.idle_floor };
-        self.views.refill(1.0 / floor.as_secs_f64().max(1e-6), now) >= 1.0
+        let floor = self.floor(waiting);
+        let left = self.views.refill(1.0 / floor.as_secs_f64().max(1e-6), now);
+        if left < 1.0 {
+            self.due_at = now + floor.mul_f64(1.0 - left) + MOMENT;
+        }
+        left >= 1.0
+    }
+
+    /// When the next view may begin, while as many wait as when [`ViewPace::is_due`] was false.
+    pub fn due_at(&self) -> Time {
+        self.due_at
+    }
+
+    /// The least time between two views, once the free ones are used.
+    fn floor(&self, waiting: usize) -> Duration {
+        if waiting >= self.options.much {
+            self.options.floor
+        } else {
+            self.options.idle_floor
+        }
     }
 }
 
 #[cfg(test)]
 mod tests {
     use super::*;
-    use std::time::Duration;
 
     /// How many views begin within ten seconds, where a view takes 10 ms.
     fn views_in_ten_seconds(options: PaceOptions, waiting: usize) -> u32 {
@@ -50,7 +75,7 @@ mod tests {
                 pace.view_changed(now);
                 count += 1;
             }
-            now = now + Duration::from_millis(10);
+            now = now + Duration::from_micros(2500);
         }
         count
     }
@@ -59,11 +84,23 @@ mod tests {
     fn little_that_waits_uses_few_views() {
         let options = PaceOptions::default();
         assert!((100..=125).contains(&views_in_ten_seconds(options, 1)));
-        assert!((380..=430).contains(&views_in_ten_seconds(options, 100)));
+        assert!((395..=415).contains(&views_in_ten_seconds(options, 100)));
         // Without the guard each view follows the one before at once.
         let none = Duration::ZERO;
         let options = PaceOptions { floor: none, idle_floor: none, ..options };
-        assert_eq!(views_in_ten_seconds(options, 1), 1000);
+        assert_eq!(views_in_ten_seconds(options, 1), 4000);
+    }
+
+    #[test]
+    fn it_says_when_the_next_view_may_begin() {
+        let (mut pace, now) = (ViewPace::new(PaceOptions::default()), Time::default());
+        for _ in 0..12 {
+            pace.view_changed(now);
+        }
+        assert!(!pace.is_due(16, now));
+        let due = pace.due_at();
+        assert!(due.since(now) <= PaceOptions::default().floor + MOMENT);
+        assert!(pace.is_due(16, due));
     }
 
     #[test]

@@ -3,9 +3,10 @@
 use bytes::Bytes;
 use themis::{Error, Standing, Tx};
 
+use crate::catch_up::MAX_BLOCKS;
 use crate::clients::{Answer, Ticket};
 use crate::core::{Core, Desk};
-use crate::engine::{Engine, Input, Output, MAX_BLOCKS};
+use crate::engine::{Engine, Input, Output};
 use crate::frame::Frame;
 use crate::guards::is_fit;
 use crate::time::Time;
@@ -95,9 +96,13 @@ impl<C: Core> Engine<C> {
         is_taken.then_some(data)
     }
 
-    /// Whether the block in a Give goes to the core. One that is stored, or not after the commit, is
-    /// of no use to it.
+    /// Whether the block in a Give goes to the core: one that the peer was asked for. One that is
+    /// stored, or not after the commit, is of no use to it.
     fn takes_block(&mut self, peer: u32, view: u32, give: &[u8]) -> bool {
+        if !self.catch_up.expects(peer) {
+            self.counters.peers[peer as usize].gives_dropped += 1;
+            return false;
+        }
         let block = wire::given_block(give);
         if view <= self.core.commit || self.given.is_stored(block) {
             self.catch_up.take(peer, view, true);
@@ -142,8 +147,10 @@ impl<C: Core> Engine<C> {
         let refused = if self.is_closing {
             Some(Answer::Closed)
         } else if self.is_over() {
-            Some(Answer::Over)
+            // Where another session follows, that takes it.
+            Some(if self.session.is_some() { Answer::Busy } else { Answer::Over })
         } else if self.intake.of_clients() + txs.len() > self.options.max_waiting
+            || self.intake.own_room() < txs.len()
             || !self.intake.own.has_room(&txs, self.options.max_of_client)
         {
             Some(Answer::Busy)
@@ -155,17 +162,31 @@ impl<C: Core> Engine<C> {
         } else {
             let new = self.intake.submit(self.core.core.desk(), &txs)?;
             self.clients.put(ticket, txs, new);
+            self.refuse_what_found_no_room();
         }
         Ok(())
+    }
+
+    /// What the library has no room for never arrives, so nobody waits for it.
+    pub(crate) fn refuse_what_found_no_room(&mut self) {
+        let full = self.intake.take_full();
+        if full.is_empty() {
+            return;
+        }
+        for ticket in self.clients.take_with(|it| full.contains(it)) {
+            self.put(Output::Answer(ticket, Answer::Busy));
+        }
     }
 
     /// Clients hear `ok` once all their transactions are durable here, or final. Call it while no
     /// record waits to be durable: what has arrived is durable then.
     pub(crate) fn answer_clients(&mut self) -> Result<(), Error> {
+        self.refuse_what_found_no_room();
         if self.clients.len() == 0 {
             return Ok(());
         }
-        let is_over = self.is_over();
+        // What waits goes on in the next session, where there is one.
+        let is_over = self.session.is_none() && self.is_over();
         let desk = self.core.core.desk();
         let is_safe = |tx: &Tx| {
             let standing = desk.standing(tx)?;

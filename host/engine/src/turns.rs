@@ -17,6 +17,8 @@ use crate::wire;
 const MAX_GROUP: usize = 32;
 /// For so long what may arrive waits for a proposal.
 const ARRIVE_EVERY: Duration = Duration::from_millis(20);
+/// From the commit to the view, where single views fail: with one of five leaders away it is seven.
+const MAX_OPEN_VIEWS: u32 = 9;
 
 /// Events that the core has prepared, and on which it acts once their records are durable.
 ///
@@ -172,8 +174,19 @@ impl<C: Core> Engine<C> {
         }
         self.turns.looked_at = Some(now);
         let mut out = self.service_arrivals(now)?;
-        out.extend(self.intake.arrivals(self.core.core.desk())?);
+        if !self.are_views_failing() {
+            out.extend(self.intake.arrivals(self.core.core.desk())?);
+        }
         Ok(out)
+    }
+
+    /// Whether views fail, while something that has arrived waits. The core caches the chains of its
+    /// last six blocks, and of the one that they extend. Were that of the certified block not among
+    /// them, it would work that chain out anew for each transaction that is held, which takes seconds,
+    /// and makes further views fail.
+    fn are_views_failing(&self) -> bool {
+        self.intake.pending() > 0
+            && self.core.view > self.core.commit.saturating_add(MAX_OPEN_VIEWS)
     }
 
     /// Where sessions follow one another, transactions of the service arrive past the others, and

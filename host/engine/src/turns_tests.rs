@@ -224,8 +224,28 @@ fn an_early_ask_waits_unless_the_guard_is_off() {
 }
 
 #[test]
+fn a_block_that_nobody_asked_for_is_dropped_and_counted() {
+    let mut it = engine(Options::default());
+    let give = [&[2, 7], &proposal()[3..]].concat();
+    (0..3).for_each(|_| hears(&mut it, 2, message(&give)));
+    work(&mut it, NOW);
+    assert!(it.core_mut().acted.is_empty());
+    assert_eq!(it.counters.peers[2].gives_dropped, 3);
+    asks_for_blocks(&mut it, 2);
+    hears(&mut it, 2, message(&give));
+    work(&mut it, NOW);
+    assert_eq!(it.core_mut().acted.len(), 1);
+}
+
+/// It asks a peer for the blocks that it misses.
+fn asks_for_blocks(it: &mut Engine<Played>, peer: u32) {
+    assert!(it.catch_up.follow_orphan(peer, 0, 0, NOW).is_some());
+}
+
+#[test]
 fn a_block_that_was_proposed_is_not_taken_again() {
     let mut it = engine(Options::default());
+    asks_for_blocks(&mut it, 2);
     let proposal = proposal();
     hears(&mut it, 1, Frame::Message(proposal.clone()));
     work(&mut it, NOW);
@@ -250,17 +270,22 @@ fn proposal() -> Bytes {
     proposal_of(6, &[txs; 4])
 }
 
-/// A replica in which 96 of a burst have arrived, which a proposal of a peer then proposes.
-fn arrived_after(refusal: Option<Reason>) -> Engine<Played> {
-    let mut it = engine(Options::default());
+/// 96 of a burst arrive, which a proposal of a peer then proposes.
+fn burst_and_proposal(it: &mut Engine<Played>) {
     let receipts: Vec<_> = (1..).zip(burst()).map(|(stamp, tx)| Receipt { tx, stamp }).collect();
     for peer in 1..5 {
-        hears(&mut it, peer, Frame::Receipts { clock: 400, receipts: receipts.clone() });
+        hears(it, peer, Frame::Receipts { clock: 400, receipts: receipts.clone() });
     }
-    work(&mut it, NOW);
+    work(it, NOW);
+    hears(it, 1, message(&proposal()));
+    work(it, NOW);
+}
+
+/// The same of a replica that refuses the proposal.
+fn arrived_after(refusal: Option<Reason>) -> Engine<Played> {
+    let mut it = engine(Options::default());
     it.core_mut().refuses = refusal.map(|it| (proposal().to_vec(), it));
-    hears(&mut it, 1, message(&proposal()));
-    work(&mut it, NOW);
+    burst_and_proposal(&mut it);
     it
 }
 
@@ -271,6 +296,18 @@ fn a_refused_proposal_lets_nothing_arrive() {
     let arrived = |it: &Engine<Played>| it.status(NOW).arrived;
     assert_eq!(arrived(&arrived_after(Some(Reason::BadSeal))), 96);
     assert_eq!(arrived(&arrived_after(None)), 192);
+}
+
+/// While views fail, what waits does not arrive: to let it costs the core seconds then.
+#[test]
+fn nothing_more_arrives_while_views_fail() {
+    let arrived_at = |left| {
+        let mut it = engine(Options::default());
+        it.core_mut().left = left; // known after a turn
+        burst_and_proposal(&mut it);
+        it.status(NOW).arrived
+    };
+    assert_eq!([arrived_at(5), arrived_at(20)], [192, 96]);
 }
 
 #[test]

@@ -21,6 +21,9 @@
 //! is not asked again: an honest replica took it. Then no final number is above the window, except
 //! where more than f replicas are faulty. The window jumps in that case, so that replicas still agree.
 //!
+//! A number that is final says nothing of another transaction with it, which one replica may have taken
+//! before. Where a peer reports one, the store is asked (`sessions/doubles.rs`).
+//!
 //! **Cost.** A client whose numbers became final in order takes some 40 bytes in memory, and any
 //! other some 170. At most [`MAX_CLIENTS`] clients are taken, so all windows have at most 11 MB, and
 //! what was in flight when the limit was reached. After that no new client is taken, and nothing
@@ -35,8 +38,8 @@ use crate::tx::Tx;
 pub const WINDOW: u64 = 1024;
 /// Clients with a final transaction; a new one above that is refused.
 pub const MAX_CLIENTS: usize = 65_536;
-/// From here on clients are the service's own, and so is client 0. They have no window: a rule of
-/// sessions says which of their transactions is taken.
+/// From here on clients are the service's own, and so is client 0. Rules of sessions say which of their
+/// transactions is taken.
 const OWN_CLIENTS: u32 = u32::MAX - 15;
 /// A client's first number.
 const FIRST: u64 = 1;
@@ -178,10 +181,16 @@ fn place(number: u64) -> (usize, u64) {
     (at as usize / 64, 1 << (at % 64))
 }
 
-/// Whether a client's numbers have a window: each but those of the service itself, for the markers of
-/// sessions and the keys of replicas.
+/// Whether a client's numbers have a window: each but those of markers, of which each session has its
+/// own. The window of a replica's keys ends at the highest number that is final: one that is left out
+/// holds nothing.
 pub const fn has_window(client: u32) -> bool {
-    client != 0 && client < OWN_CLIENTS
+    client != 0
+}
+
+/// Whether it is one of the service itself.
+const fn is_own(client: u32) -> bool {
+    client == 0 || client >= OWN_CLIENTS
 }
 
 /// The windows of all clients with a final transaction.
@@ -193,17 +202,29 @@ pub struct Windows {
 impl Windows {
     /// Whether a transaction may be received.
     pub fn check(&self, tx: &Tx) -> Check {
-        if !has_window(tx.client) {
+        if is_own(tx.client) {
             return Check::Reserved;
         }
         match self.of.get(&tx.client) {
             Some(window) => window.check(tx.number),
-            None if self.of.len() >= MAX_CLIENTS => Check::TooManyClients,
+            None if self.is_full() => Check::TooManyClients,
             None => Window::default().check(tx.number),
         }
     }
 
-    /// A transaction is final. Nothing changes for a client of the service itself.
+    fn is_full(&self) -> bool {
+        self.of.len() - self.of.range(OWN_CLIENTS..).count() >= MAX_CLIENTS
+    }
+
+    /// Whether a transaction of the service itself is not final, as far as its window says: one below
+    /// it counts as final.
+    pub fn is_open(&self, tx: &Tx) -> bool {
+        let first = || Window::default().check(tx.number);
+        let check = self.of.get(&tx.client).map_or_else(first, |it| it.check(tx.number));
+        has_window(tx.client) && check == Check::New
+    }
+
+    /// A transaction is final. Nothing changes for the client of markers.
     ///
     /// What is final is always settled, also of a client above the limit: another replica took it
     /// before the limit was reached.

@@ -154,10 +154,15 @@ fn clients_are_apart_and_bounded() {
     let mut windows = Windows::default();
     for own in [0, OWN_CLIENTS, u32::MAX] {
         assert_eq!(windows.check(&tx(own, 1)), Check::Reserved);
-        assert_eq!(windows.settle(&tx(own, 1)), Settled::New);
     }
-    assert!(has_window(1) && has_window(OWN_CLIENTS - 1));
-    assert!(windows.is_empty());
+    assert_eq!(windows.settle(&tx(0, 1)), Settled::New);
+    assert!(windows.is_empty() && !has_window(0) && has_window(1) && has_window(u32::MAX));
+    // What is final of a replica's keys is known, and counts as no client.
+    windows.settle(&tx(OWN_CLIENTS, 9));
+    let is_open = |it: &Windows, number| it.is_open(&tx(OWN_CLIENTS, number));
+    assert!(is_open(&windows, 8) && !is_open(&windows, 9) && is_open(&windows, 10));
+    windows.settle(&tx(OWN_CLIENTS, 5000));
+    assert!(!is_open(&windows, 8) && is_open(&windows, 4999) && !is_open(&windows, 5001));
     assert_eq!(windows.check(&tx(7, 1025)), Check::TooFarAhead);
     for client in 1..=MAX_CLIENTS as u32 {
         assert_eq!(windows.check(&tx(client, 1)), Check::New);
@@ -169,7 +174,7 @@ fn clients_are_apart_and_bounded() {
     assert_eq!(windows.check(&tx(7, 2)), Check::New);
     // It was in flight.
     assert_eq!(windows.settle(&tx(new, 1)), Settled::New);
-    assert_eq!((windows.len(), windows.check(&tx(new, 2))), (MAX_CLIENTS + 1, Check::New));
+    assert_eq!((windows.len(), windows.check(&tx(new, 2))), (MAX_CLIENTS + 2, Check::New));
 }
 
 #[test]

@@ -11,8 +11,6 @@ use themis_engine::tx::{self, Tx};
 use themis_store::Reader;
 use tokio::sync::watch;
 
-use crate::exit::{Exit, Failure};
-
 /// Transactions of one part from the store, in bytes.
 const MAX_BYTES: usize = 1 << 18;
 
@@ -20,7 +18,8 @@ const MAX_BYTES: usize = 1 << 18;
 pub struct Batches {
     recent: Mutex<Recent>,
     count: watch::Sender<usize>,
-    stored: Option<Arc<Mutex<Reader>>>,
+    /// One after the other reads: those that wait block no thread.
+    stored: Option<Arc<tokio::sync::Mutex<Reader>>>,
 }
 
 /// The batches in memory.
@@ -60,7 +59,7 @@ impl Batches {
     /// The batches of a store, up to this position.
     pub fn over(stored: Reader, first: usize) -> Batches {
         let recent = Recent { first, lines: VecDeque::new() };
-        let stored = Some(Arc::new(Mutex::new(stored)));
+        let stored = Some(Arc::new(tokio::sync::Mutex::new(stored)));
         Batches { recent: Mutex::new(recent), count: watch::channel(first).0, stored }
     }
 
@@ -95,21 +94,29 @@ impl Batches {
             recent.first
         };
         // Nothing leaves the memory before it is in the store.
-        let Some(stored) = self.stored.clone() else { return Ok(Vec::new()) };
         let most = most.min(first - position);
-        let read = move || lock(&stored).batches(position, most, MAX_BYTES);
-        let read = tokio::task::spawn_blocking(read).await?;
-        let found = read.map_err(|cause| {
-            tracing::error!(%cause, "the store can't be read");
-            io::Error::other(cause)
-        })?;
+        let found = self.read(move |it| it.batches(position, most, MAX_BYTES)).await?;
+        let found = found.unwrap_or_default();
         Ok(found.iter().map(|it| line(it.position, &it.txs)).collect())
     }
 
     /// The position of a transaction that is in the store.
-    pub fn position_of(&self, tx: &Tx) -> Result<Option<usize>, Failure> {
-        let Some(stored) = &self.stored else { return Ok(None) };
-        lock(stored).position_of(tx).map_err(|cause| Failure::new(Exit::Disk, cause))
+    pub async fn position_of(&self, tx: Tx) -> io::Result<Option<usize>> {
+        Ok(self.read(move |it| it.position_of(&tx)).await?.flatten())
+    }
+
+    /// What the store says, aside from all threads that others wait for; none where there is no store.
+    async fn read<T: Send + 'static>(
+        &self,
+        question: impl FnOnce(&Reader) -> Result<T, themis_store::Error> + Send + 'static,
+    ) -> io::Result<Option<T>> {
+        let Some(stored) = self.stored.clone() else { return Ok(None) };
+        let reader = stored.lock_owned().await;
+        let read = tokio::task::spawn_blocking(move || question(&reader)).await?;
+        read.map(Some).map_err(|cause| {
+            tracing::error!(%cause, "the store can't be read");
+            io::Error::other(cause)
+        })
     }
 
     /// Changes with each batch.
@@ -119,10 +126,20 @@ impl Batches {
 }
 
 #[cfg(test)]
-mod tests {
+pub(crate) mod tests {
     use themis_store::{chain, Ended, Identity, Store};
 
     use super::*;
+
+    /// The batches of a store that was damaged since the start.
+    pub(crate) fn damaged(folder: &std::path::Path) -> Batches {
+        let damaged = Batches::over(stored(folder), 3);
+        let store = std::fs::File::options().write(true).open(folder.join("0.store")).unwrap();
+        store.set_len(4096).unwrap();
+        damaged
+    }
+
+    const OWNER: Identity = Identity { cluster: [1; 32], replica: 0 };
 
     fn batch(number: u32) -> Vec<Tx> {
         vec![Tx { client: 1, number, payload: 0 }]
@@ -130,7 +147,8 @@ mod tests {
 
     /// A store in which one session with three batches has ended.
     fn stored(folder: &std::path::Path) -> Reader {
-        let (path, owner) = (folder.join("0.store"), Identity { cluster: [1; 32], replica: 0 });
+        let (path, owner) = (folder.join("0.store"), OWNER);
+        let _ = std::fs::remove_file(&path);
         Store::create(&path, &owner, 0, "", &Vec::new()).unwrap();
         let (batches, mut digest) = ([1, 2, 3].map(batch), [0; 32]);
         for it in &batches {
@@ -151,7 +169,29 @@ mod tests {
             is_closed,
         };
         Store::open(&path, &owner).unwrap().end(&ended).unwrap();
-        Reader::open(&path, &owner).unwrap()
+        reader(folder)
+    }
+
+    fn reader(folder: &std::path::Path) -> Reader {
+        Reader::open(&folder.join("0.store"), &OWNER).unwrap()
+    }
+
+    /// A bad page of the file, or a disk that fails, is no cause to end the replica.
+    #[tokio::test(flavor = "current_thread")]
+    async fn where_transactions_are_and_a_store_that_cant_be_read() {
+        let folder = std::env::temp_dir().join(format!("themisd-damaged-{}", std::process::id()));
+        std::fs::create_dir_all(&folder).unwrap();
+        drop(stored(&folder));
+        let whole = Batches::over(reader(&folder), 3);
+        let tx = |number| batch(number)[0];
+        assert_eq!(whole.position_of(tx(2)).await.unwrap(), Some(1));
+        assert_eq!(whole.position_of(tx(9)).await.unwrap(), None);
+        assert_eq!(Batches::new().position_of(tx(2)).await.unwrap(), None);
+        drop(whole);
+        let damaged = damaged(&folder);
+        assert!(damaged.position_of(tx(2)).await.is_err());
+        assert!(damaged.from(0, 2).await.is_err());
+        std::fs::remove_dir_all(folder).unwrap();
     }
 
     #[tokio::test(flavor = "current_thread")]

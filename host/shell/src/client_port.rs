@@ -1,7 +1,9 @@
 //! The port for clients: lines of text, each a command and its arguments.
 //!
-//!     submit TX ..        ok NEW OLD, once they are durable here; or busy, closed, over, bad CAUSE
-//!     follow POSITION     batch POSITION TX .., for each final batch from this position on, for ever
+//! ```text
+//! submit TX ..        ok NEW OLD, once they are durable here; or busy, closed, over, bad CAUSE
+//! follow POSITION     batch POSITION TX .., for each final batch from this position on, for ever
+//! ```
 //!
 //! A transaction is client.number.payload, and has the number of the client whose certificate the
 //! connection shows ([`crate::identity`]). A connection that starts with a capital letter speaks

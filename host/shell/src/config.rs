@@ -117,7 +117,6 @@ pub struct Config {
     max_waiting: usize,
     max_of_client: usize,
     hold_asks: bool,
-    use_keys: bool,
     fetch_rate: f64,
     #[serde(deserialize_with = "seconds")]
     view_floor: Duration,
@@ -127,13 +126,16 @@ pub struct Config {
     pub sessions: bool,
     /// Then logs of sessions stay, once no replica needs them.
     pub keep_logs: bool,
+    /// So many accounts of sessions whose logs do not stay.
+    pub accounts: usize,
     /// Records are made durable.
     pub fsync: bool,
     /// The operator's socket takes the command `fault`.
     pub allow_faults: bool,
     /// What was received and heard goes to a file.
     log_receipts: bool,
-    deeds: Vec<String>,
+    /// What a faulty replica of a test does. The conduct takes or refuses it.
+    pub deeds: Vec<String>,
 }
 
 impl Default for Config {
@@ -155,12 +157,12 @@ impl Default for Config {
             max_waiting: options.max_waiting,
             max_of_client: options.max_of_client,
             hold_asks: options.hold_asks,
-            use_keys: true,
             fetch_rate: options.fetch_rate,
             view_floor: options.pace.floor,
             idle_view_floor: options.pace.idle_floor,
             sessions: false,
-            keep_logs: true,
+            keep_logs: false,
+            accounts: 8,
             fsync: true,
             allow_faults: false,
             log_receipts: false,
@@ -181,6 +183,10 @@ pub struct Setup {
     pub config: Config,
     /// What all share.
     pub cluster: Cluster,
+    /// The file of the replica's own.
+    pub path: PathBuf,
+    /// The file that all share.
+    pub shared: PathBuf,
     /// Where paths start.
     pub folder: PathBuf,
     /// Where replicas listen for peers.
@@ -191,21 +197,24 @@ pub struct Setup {
     pub public_keys: Vec<[u8; 60]>,
 }
 
+/// The folder of a file; of a bare name, the one that the process is in.
+pub fn folder_of(path: &Path) -> &Path {
+    path.parent().filter(|it| !it.as_os_str().is_empty()).unwrap_or(Path::new("."))
+}
+
 impl Setup {
     /// Reads both files, and checks them.
     pub fn load(path: &Path) -> Result<Setup, Failure> {
-        let config: Config = read_toml(path)?;
-        let folder = path.parent().unwrap_or(Path::new("")).to_path_buf();
+        Setup::with(read_toml(path)?, path)
+    }
+
+    /// With a configuration that is, or will be, in this file. Reads what all share.
+    pub fn with(config: Config, path: &Path) -> Result<Setup, Failure> {
+        let folder = folder_of(path).to_path_buf();
         let shared = folder.join(&config.cluster_file);
         let cluster: Cluster = read_toml(&shared)?;
         if config.replica >= cluster.n {
             return Err(bad(path, format!("no replica {} of {}", config.replica, cluster.n)));
-        }
-        if !config.deeds.is_empty() {
-            return Err(bad(path, "this host has no deeds: run that replica in Python"));
-        }
-        if !config.use_keys {
-            return Err(bad(path, "arrivals go by keys here: the library decides"));
         }
         cluster.check().map_err(|it| bad(&shared, it))?;
         let addresses = |texts: &[String]| {
@@ -216,7 +225,8 @@ impl Setup {
         let keys = cluster.keys();
         let public_keys = keys.ok_or_else(|| bad(&shared, "a public key has 60 bytes"))?;
         let (peers, clients) = (addresses(&cluster.peers)?, addresses(&cluster.clients)?);
-        Ok(Setup { config, cluster, folder, peers, clients, public_keys })
+        let path = path.to_path_buf();
+        Ok(Setup { config, cluster, path, shared, folder, peers, clients, public_keys })
     }
 
     /// This replica.
@@ -383,4 +393,18 @@ fn bad(path: &Path, text: impl std::fmt::Display) -> Failure {
 pub fn read_toml<T: for<'de> Deserialize<'de>>(path: &Path) -> Result<T, Failure> {
     let text = std::fs::read_to_string(path).map_err(|it| bad(path, it))?;
     toml::from_str(&text).map_err(|it| bad(path, it))
+}
+
+#[cfg(test)]
+mod tests {
+    use super::*;
+
+    /// `cd DIR && themisd run 0.toml`: the folder is opened, listed and made durable by its name.
+    #[test]
+    fn a_bare_name_is_in_the_folder_of_the_process() {
+        for (path, folder) in [("0.toml", "."), ("./0.toml", "."), ("a/0.toml", "a"), ("/0", "/")] {
+            assert_eq!(folder_of(Path::new(path)), Path::new(folder));
+        }
+        assert!(std::fs::read_dir(folder_of(Path::new("0.toml"))).is_ok());
+    }
 }

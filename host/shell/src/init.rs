@@ -1,7 +1,8 @@
-//! The command `init`: what one replica of a new session has of its own, and its public part.
+//! The command `init`: what one replica of a new cluster has of its own, and its public part.
 //!
-//! A secret is drawn once, and serves one session of one replica. So no file is overwritten, each is
-//! durable before the next is made, and the public part comes last: once somebody has that, the
+//! A secret is drawn once. It serves one replica over all its sessions, whose secrets are made from it
+//! (`themis_engine::sessions::secret`), or one session of one replica. So no file is overwritten, each
+//! is durable before the next is made, and the public part comes last: once somebody has that, the
 //! secret is safe.
 
 use std::fs;
@@ -10,10 +11,13 @@ use std::path::{Path, PathBuf};
 
 use clap::Args;
 use serde::{Deserialize, Serialize};
+use themis::Height;
+use themis_engine::sessions::keys::PublicKey;
 
 use crate::certificate;
 use crate::config::{address_of, height_of, hex};
 use crate::exit::{Exit, Failure};
+use crate::keeper::own_key;
 use crate::new_file::{write_new, Readers};
 use crate::sys;
 
@@ -34,7 +38,13 @@ pub struct Wanted {
     /// The height of the keys, as all replicas have it: 5, 10, 505 or 510.
     #[arg(long, default_value_t = 510)]
     pub height: u32,
+    /// The cluster has one session alone. It ends for good once its views are used.
+    #[arg(long)]
+    pub one_session: bool,
 }
+
+/// The number of the first session, where sessions follow one another.
+pub const FIRST_SESSION: u32 = 0;
 
 /// What the others need to know of a replica.
 #[derive(Clone, Debug, Deserialize, Serialize, PartialEq, Eq)]
@@ -42,9 +52,11 @@ pub struct Wanted {
 pub struct PublicPart {
     /// The replica.
     pub replica: u32,
+    /// Its sessions follow one another.
+    pub sessions: bool,
     /// Of its key, by its number.
     pub height: u32,
-    /// Its public key, in hexadecimal digits.
+    /// Its public key in the first session, in hexadecimal digits.
     pub public: String,
     /// Where it takes other replicas.
     pub peer: String,
@@ -66,12 +78,11 @@ pub fn make(wanted: &Wanted) -> Result<(), Failure> {
     refuse_taken(&paths)?;
     fs::create_dir_all(&wanted.folder).map_err(|it| failed(&wanted.folder, &it))?;
 
-    let mut secret = [0; 48];
-    sys::draw(&mut secret).map_err(|it| Failure::new(Exit::Fault, it))?;
-    let key = themis::public_key(height, &secret)?;
+    let (secret, key) = secret_and_key(height, wanted.one_session)?;
     let (tls_key, tls_certificate) = certificate::make(&wanted.replica.to_string(), &hosts)?;
     let public = PublicPart {
         replica: wanted.replica,
+        sessions: !wanted.one_session,
         height: wanted.height,
         public: hex(&key),
         peer: wanted.peer.clone(),
@@ -81,7 +92,7 @@ pub fn make(wanted: &Wanted) -> Result<(), Failure> {
     let public = toml::to_string(&public).map_err(|it| Failure::new(Exit::Fault, it))?;
     let [secret_path, key_path, certificate_path, public_path] = &paths;
     for (path, text, readers) in [
-        (secret_path, hex(&secret), Readers::Owner),
+        (secret_path, secret, Readers::Owner),
         (key_path, tls_key, Readers::Owner),
         (certificate_path, tls_certificate, Readers::All),
         (public_path, public, Readers::All),
@@ -90,6 +101,19 @@ pub fn make(wanted: &Wanted) -> Result<(), Failure> {
     }
     println!("made {}: give this file to the others", public_path.display());
     Ok(())
+}
+
+/// A new secret, in hexadecimal digits, and the public key of the first session.
+fn secret_and_key(height: Height, is_one: bool) -> Result<(String, PublicKey), Failure> {
+    let drawn = |it: &mut [u8]| sys::draw(it).map_err(|it| Failure::new(Exit::Fault, it));
+    if is_one {
+        let mut secret = [0; 48];
+        drawn(&mut secret)?;
+        return Ok((hex(&secret), themis::public_key(height, &secret)?));
+    }
+    let mut master = [0; 32];
+    drawn(&mut master)?;
+    Ok((hex(&master), own_key(height, &master, FIRST_SESSION)?))
 }
 
 /// The hosts of some addresses, each once; or the text that is no address.
@@ -122,6 +146,7 @@ pub fn failed(path: &Path, fault: &io::Error) -> Failure {
 #[cfg(test)]
 mod tests {
     use super::*;
+    use crate::config::secret_of;
     use std::os::unix::fs::PermissionsExt;
 
     #[test]
@@ -133,18 +158,22 @@ mod tests {
             peer: "127.0.0.1:4006".to_owned(),
             client: "127.0.0.1:4007".to_owned(),
             height: 5,
+            one_session: false,
         };
         make(&wanted).unwrap();
         let read = |name: &str| fs::read_to_string(wanted.folder.join(name)).unwrap();
         let secret = read("3.secret");
-        assert_eq!(secret.len(), 96);
+        assert_eq!(secret.len(), 64);
         for name in ["3.secret", "3.tls.key"] {
             let mode = fs::metadata(wanted.folder.join(name)).unwrap().permissions().mode();
             assert_eq!(mode & 0o777, 0o600);
         }
         let public: toml::Value = toml::from_str(&read("3.public.toml")).unwrap();
         assert_eq!(public["replica"].as_integer(), Some(3));
-        assert_eq!(public["public"].as_str().map(str::len), Some(120));
+        assert_eq!(public["sessions"].as_bool(), Some(true));
+        let master = secret_of(&wanted.folder.join("3.secret")).unwrap();
+        let key = own_key(Height::H5, &master, 0).unwrap();
+        assert_eq!(public["public"].as_str(), Some(&*hex(&key)));
         assert_eq!(public["certificate"].as_str(), Some(&*read("3.crt")));
         assert!(!read("3.public.toml").contains(&secret));
 
@@ -153,6 +182,10 @@ mod tests {
         fs::remove_file(wanted.folder.join("3.secret")).unwrap();
         assert_eq!(make(&wanted).unwrap_err().exit, Exit::Usage);
         assert!(!wanted.folder.join("3.secret").exists());
+
+        let one = Wanted { replica: 5, one_session: true, ..wanted.clone() };
+        make(&one).unwrap();
+        assert_eq!(read("5.secret").len(), 96);
 
         let no_address = Wanted { replica: 4, peer: "host".to_owned(), ..wanted.clone() };
         assert_eq!(make(&no_address).unwrap_err().exit, Exit::Usage);

@@ -11,8 +11,6 @@ use themis_engine::tx::Tx;
 use themis_engine::{Answer, Ticket};
 use tokio::sync::oneshot;
 
-use crate::keeper::Done;
-
 /// A request to the engine's thread.
 pub enum Request {
     /// A peer sent a frame, which takes up one of its slots.
@@ -29,8 +27,8 @@ pub enum Request {
         /// What it sent.
         frame: SessionFrame,
     },
-    /// The keeper has done what the engine asked for.
-    Done(Box<Done>),
+    /// The keeper has done what the engine asked for, and has put it into the engine's other inbox.
+    Done,
     /// A peer's connection ended by what is no frame.
     BadFrame {
         /// The peer, if it is known.
@@ -64,8 +62,13 @@ pub enum Request {
         /// Takes the answer.
         answer: oneshot::Sender<Found>,
     },
-    /// Takes no more transactions.
-    Close(oneshot::Sender<()>),
+    /// Has a session end. One session alone takes no more transactions then.
+    Close {
+        /// The session; without a number, the one that the status names.
+        session: Option<u32>,
+        /// Takes the answer: why not, where it does not end.
+        answer: oneshot::Sender<Result<(), String>>,
+    },
     /// A fault that a test orders; whether there is such a one.
     Fault {
         /// The order.
@@ -89,7 +92,8 @@ pub struct Pages {
 pub struct Found {
     /// What the library knows of it.
     pub standing: Standing,
-    /// The position of its batch, if it is final in this session.
+    /// The position of its batch in the list, if that is in memory. The store has those of sessions
+    /// that have ended.
     pub position: Option<usize>,
 }
 

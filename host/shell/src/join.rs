@@ -1,18 +1,22 @@
 //! The command `join`: what a replica of a new cluster has besides its own secret, from the public
 //! parts of all replicas.
 //!
-//! A log is made once for a secret, and never again: a second one would sign with leaves that the
-//! first has used. So nothing is made where the shared file, the configuration or the log is there.
+//! The log of one session, or the store of a replica over its sessions, is made once for a secret, and
+//! never again: a second one would sign with leaves that the first has used. So nothing is made where
+//! the shared file, the configuration, the log or the store is there.
 
 use std::path::{Path, PathBuf};
 
 use clap::Args;
 use themis::{Error, Replica};
+use themis_engine::sessions::secret::secret_of as session_secret;
 
 use crate::config::{hex, read_toml, secret_of, Cluster, Setup, Transport};
 use crate::exit::{Exit, Failure};
-use crate::init::{failed, refuse_taken, PublicPart};
+use crate::init::{failed, refuse_taken, PublicPart, FIRST_SESSION};
 use crate::new_file::{write_new, Readers};
+use crate::recovery::{self, store_path};
+use crate::sessions_worker::owner;
 
 const CLUSTER_FILE: &str = "cluster.toml";
 const AUTHORITY_FILE: &str = "client_authority.crt";
@@ -31,12 +35,15 @@ pub struct Setting {
     /// The fairness, as P/Q.
     #[arg(long, value_name = "P/Q", default_value = "1/1")]
     gamma: String,
-    /// The last view of the session.
+    /// The last view of a session.
     #[arg(long, default_value_t = 2600)]
     views: u32,
+    /// For tests: connections are neither encrypted nor authenticated.
+    #[arg(long)]
+    plain: bool,
     /// The certificate of the authority that signs those of clients.
-    #[arg(long, value_name = "FILE")]
-    client_authority: PathBuf,
+    #[arg(long, value_name = "FILE", required_unless_present = "plain")]
+    client_authority: Option<PathBuf>,
     /// The public parts of all replicas, this one's too.
     #[arg(required = true)]
     parts: Vec<PathBuf>,
@@ -47,32 +54,62 @@ pub fn make(setting: &Setting) -> Result<(), Failure> {
     let at = |name: &str| setting.folder.join(name);
     let own = |kind: &str| at(&format!("{}.{kind}", setting.replica));
     let (config, log) = (own("toml"), own("log"));
-    refuse_taken(&[at(CLUSTER_FILE), config.clone(), log.clone(), at(AUTHORITY_FILE)])?;
+    let store = store_path(&setting.folder, setting.replica);
+    let taken = [at(CLUSTER_FILE), config.clone(), log.clone(), store, at(AUTHORITY_FILE)];
+    refuse_taken(&taken)?;
     let parts = parts_of(&setting.parts)?;
+    let follows = parts[0].sessions;
     let cluster = cluster_of(setting, &parts)?;
-    let header = header_of(&cluster, setting.replica, &own("secret"))?;
-    let authority = &setting.client_authority;
-    let authority = std::fs::read_to_string(authority).map_err(|it| failed(authority, &it))?;
+    let header = header_of(&cluster, setting.replica, follows, &own("secret"))?;
+    let authority = setting.client_authority.as_ref();
+    let authority =
+        authority.map(|it| std::fs::read_to_string(it).map_err(|fault| failed(it, &fault)));
     let shared = toml::to_string(&cluster).map_err(|it| Failure::new(Exit::Fault, it))?;
 
     for it in &parts {
         put(&at(&certificate_file(it.replica)), &it.certificate)?;
     }
-    put(&at(AUTHORITY_FILE), &authority)?;
-    put(&config, &config_of(setting.replica))?;
+    if let Some(authority) = authority {
+        put(&at(AUTHORITY_FILE), &authority?)?;
+    }
+    put(&config, &config_of(setting.replica, follows))?;
     put(&at(CLUSTER_FILE), &shared)?;
-    write_new(&log, header, Readers::Owner).map_err(|it| failed(&log, &it))?;
-    let session = Setup::load(&config)?.session_digest();
-    println!("made {} for session {}", log.display(), hex(&session));
+    let setup = Setup::load(&config)?;
+    let made = if follows {
+        create_store(&setup)?
+    } else {
+        write_new(&log, header, Readers::Owner).map_err(|it| failed(&log, &it))?;
+        log
+    };
+    let (made, name) = (made.display(), hex(&setup.session_digest()));
+    println!("made {made} for {} {name}", if follows { "cluster" } else { "session" });
     Ok(())
 }
 
-/// The header of the replica's log. The library checks the setting, and that the key of the secret
-/// is the one in the replica's part.
-fn header_of(cluster: &Cluster, me: u32, secret: &Path) -> Result<[u8; 76], Failure> {
+/// Makes the store of a replica whose sessions follow one another; returns its path.
+fn create_store(setup: &Setup) -> Result<PathBuf, Failure> {
+    let keys = setup.public_keys.iter().copied().map(Some).collect();
+    let (owner, line) = (owner(setup), setup.setting_line());
+    recovery::create(&setup.folder, &owner, setup.cluster.session, &line, &keys)?;
+    Ok(store_path(&setup.folder, setup.me()))
+}
+
+/// The header of the replica's first log. The library checks the setting, and that the key of the
+/// secret is the one in the replica's part.
+fn header_of(
+    cluster: &Cluster,
+    me: u32,
+    follows: bool,
+    secret: &Path,
+) -> Result<[u8; 76], Failure> {
     let refused = |it: Error| usage(format!("no such cluster: {it}"));
     let keys = cluster.keys().ok_or_else(|| usage("a public key has 60 bytes".to_owned()))?;
-    let (role, secret) = (cluster.role(me)?, secret_of(secret)?);
+    let role = cluster.role(me)?;
+    let secret = if follows {
+        session_secret(&secret_of(secret)?, cluster.session)
+    } else {
+        secret_of(secret)?
+    };
     let (mut replica, _) = Replica::open(&role, &secret, &keys, &[]).map_err(refused)?;
     Ok(replica.header()?)
 }
@@ -104,6 +141,11 @@ fn parts_of(paths: &[PathBuf]) -> Result<Vec<PublicPart>, Failure> {
         if it.height != parts[0].height {
             return Err(usage(format!("replica {number} has a key of another height")));
         }
+        if it.sessions != parts[0].sessions {
+            let text =
+                format!("replica {number} was made for another kind of cluster than replica 0");
+            return Err(usage(text));
+        }
     }
     Ok(parts)
 }
@@ -114,7 +156,7 @@ fn cluster_of(setting: &Setting, parts: &[PublicPart]) -> Result<Cluster, Failur
     let fraction = fraction.and_then(|(p, q)| Some((p.parse().ok()?, q.parse().ok()?)));
     let (p, q) = fraction.ok_or_else(|| usage(format!("no P/Q: {}", setting.gamma)))?;
     Ok(Cluster {
-        session: 1,
+        session: if parts[0].sessions { FIRST_SESSION } else { 1 },
         n: parts.len() as u32,
         f: setting.f,
         p,
@@ -125,31 +167,50 @@ fn cluster_of(setting: &Setting, parts: &[PublicPart]) -> Result<Cluster, Failur
         clients: all(|it| &it.client),
         publics: all(|it| &it.public),
         certificates: parts.iter().map(|it| certificate_file(it.replica)).collect(),
-        client_authority: AUTHORITY_FILE.to_owned(),
-        transport: Transport::Tls,
+        client_authority: setting
+            .client_authority
+            .as_ref()
+            .map_or("", |_| AUTHORITY_FILE)
+            .to_owned(),
+        transport: if setting.plain { Transport::Plain } else { Transport::Tls },
     })
 }
 
 /// The configuration of a replica, with the defaults of docs/SERVICE.md.
-fn config_of(replica: u32) -> String {
+pub fn config_of(replica: u32, follows: bool) -> String {
+    let what =
+        if follows { "sessions = true".to_owned() } else { format!("log = \"{replica}.log\"") };
     format!(
         "replica = {replica}\ncluster_file = \"{CLUSTER_FILE}\"\n\
-         secret_file = \"{replica}.secret\"\nlog = \"{replica}.log\"\n\
-         tls_key = \"{replica}.tls.key\"\n"
+         secret_file = \"{replica}.secret\"\n{what}\ntls_key = \"{replica}.tls.key\"\n"
     )
 }
 
 #[cfg(test)]
-mod tests {
-    use super::*;
-    use crate::init::{self, Wanted};
+pub mod played {
     use std::fs;
 
+    use super::*;
+    use crate::init::{self, Wanted};
+
     /// Five replicas, each in a folder of its own as on machines of their own.
-    struct Five(PathBuf);
+    pub struct Five(PathBuf);
 
     impl Five {
-        fn new(name: &str) -> Five {
+        /// Over sessions, as `init` and `join` make them.
+        pub fn joined(name: &str) -> Five {
+            Five::joined_in(name, false)
+        }
+
+        /// The same, for one session or many.
+        pub fn joined_in(name: &str, one_session: bool) -> Five {
+            let five = Five::new(name, one_session);
+            (0..5).for_each(|it| make(&five.setting(it)).unwrap());
+            five
+        }
+
+        /// As `init` makes them.
+        pub fn new(name: &str, one_session: bool) -> Five {
             let it =
                 Five(std::env::temp_dir().join(format!("themisd-{}-{name}", std::process::id())));
             for replica in 0..5 {
@@ -160,6 +221,7 @@ mod tests {
                     peer: format!("127.0.0.1:{peer}"),
                     client: format!("127.0.0.1:{client}"),
                     height: 5,
+                    one_session,
                 };
                 init::make(&wanted).unwrap();
             }
@@ -167,11 +229,13 @@ mod tests {
             it
         }
 
-        fn folder(&self, replica: u32) -> PathBuf {
+        /// That of one replica.
+        pub fn folder(&self, replica: u32) -> PathBuf {
             self.0.join(replica.to_string())
         }
 
-        fn setting(&self, replica: u32) -> Setting {
+        /// What `join` is given.
+        pub fn setting(&self, replica: u32) -> Setting {
             let part = |it: u32| self.folder(it).join(format!("{it}.public.toml"));
             Setting {
                 folder: self.folder(replica),
@@ -179,7 +243,8 @@ mod tests {
                 f: 1,
                 gamma: "1/1".to_owned(),
                 views: 6,
-                client_authority: self.0.join("authority.crt"),
+                plain: false,
+                client_authority: Some(self.0.join("authority.crt")),
                 // The order in which they are named makes no difference.
                 parts: (0..5).map(|it| part((it + replica) % 5)).collect(),
             }
@@ -191,10 +256,18 @@ mod tests {
             let _ = fs::remove_dir_all(&self.0);
         }
     }
+}
+
+#[cfg(test)]
+mod tests {
+    use std::fs;
+
+    use super::played::Five;
+    use super::*;
 
     #[test]
     fn all_replicas_come_to_the_same_session() {
-        let five = Five::new("join");
+        let five = Five::new("join", true);
         for replica in 0..5 {
             make(&five.setting(replica)).unwrap();
         }
@@ -215,8 +288,37 @@ mod tests {
     }
 
     #[test]
+    fn a_replica_over_sessions_gets_its_store_once() {
+        let five = Five::new("join-sessions", false);
+        for replica in 0..5 {
+            make(&five.setting(replica)).unwrap();
+        }
+        let shared = |it: u32| fs::read(five.folder(it).join("cluster.toml")).unwrap();
+        for replica in 0..5 {
+            assert_eq!(shared(replica), shared(0));
+            let folder = five.folder(replica);
+            let setup = Setup::load(&folder.join(format!("{replica}.toml"))).unwrap();
+            assert!(setup.config.sessions && setup.cluster.session == FIRST_SESSION);
+            let found = recovery::open(&folder, &owner(&setup), true).unwrap();
+            let keys: Vec<_> = setup.public_keys.iter().copied().map(Some).collect();
+            assert_eq!((found.history.session.number, found.history.session.keys), (0, keys));
+            assert!(!folder.join(format!("{replica}.log")).exists());
+        }
+        // A store that was lost is not made again.
+        fs::remove_file(store_path(&five.folder(2), 2)).unwrap();
+        assert_eq!(make(&five.setting(2)).unwrap_err().exit, Exit::Usage);
+        assert!(!store_path(&five.folder(2), 2).exists());
+        // Nor does a part of one session fit.
+        let one = Five::new("join-mixed", true);
+        let mut mixed = five.setting(0);
+        mixed.folder = one.folder(0);
+        mixed.parts[0] = one.setting(0).parts[0].clone();
+        assert_eq!(make(&mixed).unwrap_err().exit, Exit::Usage);
+    }
+
+    #[test]
     fn what_is_no_cluster() {
-        let five = Five::new("refused");
+        let five = Five::new("refused", true);
         let refused = |it: &Setting| assert_eq!(make(it).unwrap_err().exit, Exit::Usage);
         let of = five.setting(0);
         let mut fewer = of.clone();

@@ -2,29 +2,29 @@
 //! keys. All of that takes a while, and the engine's thread goes on meanwhile.
 
 use std::path::{Path, PathBuf};
-use std::sync::mpsc::{self, Sender};
+use std::sync::mpsc::{self, Receiver, Sender};
 use std::sync::Arc;
+use std::thread::JoinHandle;
 
-use themis::{Error, Height, Replica, Role};
+use themis::Height;
+use themis_engine::sessions::doubles::{Search, Searched};
 use themis_engine::sessions::frames::{fitting, End, MAX_PART};
 use themis_engine::sessions::keys::{PublicKey, PublicKeys};
 use themis_engine::sessions::requests::{
-    Mark, Marked, OpenLog, Opened, Recover, Recovered, Store, Stored,
+    Mark, Marked, OpenLog, Opened, Recover, Recovered, SatOut, SitOut, Store, Stored,
 };
 use themis_engine::sessions::secret::{secret_of, Master};
 use themis_engine::sessions::{Found, Read};
 use themis_store::{Ended, Identity, Reader};
 
+use crate::conduct::Conduct;
+use crate::cores::{Begun, Cores};
 use crate::exit::{Exit, Failure};
 use crate::input::{Inbox, Request};
 use crate::log::EventLog;
-use crate::recovery::{remove_closed, store_failure, store_path};
-use crate::session_logs::{self, SessionLogs};
+use crate::recovery::{store_failure, store_path};
 use crate::sys;
-use crate::timed::Timed;
 
-/// The header of a log.
-const HEADER_BYTES: usize = 76;
 /// Batches of one answer to a peer, before their bytes are counted.
 const MAX_READ: usize = 4096;
 
@@ -33,14 +33,20 @@ const MAX_READ: usize = 4096;
 pub enum Job {
     /// Store how a session ended.
     Store(Store),
-    /// Make a log.
+    /// Make a log, and its core.
     OpenLog(OpenLog),
+    /// Make both ahead.
+    OpenAhead(u32, PublicKeys),
     /// Mark a log as opened.
     Mark(Mark),
     /// Open a log that was marked.
     Recover(Recover),
+    /// Store what is sat out.
+    SitOut(SitOut),
     /// Read how a session ended.
     Read(Read),
+    /// Search for transactions.
+    Search(Search),
     /// A log is not opened again.
     Retired(u32),
     /// Make the own public key of a session.
@@ -75,18 +81,22 @@ impl Step {
     }
 }
 
-/// What was done.
-pub enum Done {
+/// What was done. `C` is a core as the engine has it.
+pub enum Done<C> {
     /// The end of a session is durable, up to this position.
     Stored(Stored, usize),
     /// A log is there, with a new core.
-    Opened(u32, Opened<Timed>, Option<EventLog>),
+    Opened(u32, Opened<C>, Option<EventLog>),
     /// A log is marked.
     Marked(Marked),
     /// A log is open, or lost.
-    Recovered(u32, Recovered<Timed>, Option<EventLog>),
+    Recovered(u32, Recovered<C>, Option<EventLog>),
+    /// It is stored what is sat out.
+    SatOut(SatOut),
     /// How a session ended.
     Found(Found),
+    /// Which transactions are not final in any session that has ended.
+    Searched(Searched),
     /// The own public key of a session.
     Key(u32, PublicKey),
     /// It can't be done, so the process ends.
@@ -94,54 +104,81 @@ pub enum Done {
 }
 
 /// What the thread works on.
-pub struct Keeper {
+pub struct Keeper<C: Conduct> {
     /// The file of the store.
     pub path: PathBuf,
     /// The store, for its one writer.
     pub store: themis_store::Store,
     /// The same store.
     pub reader: Reader,
-    /// Its logs.
-    pub logs: SessionLogs,
-    /// Logs stay once no replica needs them, for an audit.
-    pub keeps_logs: bool,
-    /// What the library is told of the replica.
-    pub role: Role,
-    /// What each session's secret is made from.
-    pub master: Master,
+    /// What opens its logs.
+    pub cores: Cores<C>,
+    /// Makes the log of the session that comes next ahead.
+    pub ahead: Option<Ahead<C::Core>>,
+    /// The thread that exports accounts of closed sessions.
+    pub exporter: Sender<()>,
     /// What the store says of each session.
     pub setting: String,
-    /// The session that came next, or ran, when the process started.
-    pub first: u32,
     /// Where a test wants the process to die.
     pub dies_at: Option<Step>,
 }
 
-impl Keeper {
-    /// A second connection to the store of a replica.
-    pub fn reader(folder: &Path, owner: &Identity) -> Result<Reader, Failure> {
-        let path = store_path(folder, owner.replica);
-        Reader::open(&path, owner).map_err(|it| store_failure(&path, &it))
-    }
+/// A second connection to the store of a replica.
+pub fn reader(folder: &Path, owner: &Identity) -> Result<Reader, Failure> {
+    let path = store_path(folder, owner.replica);
+    Reader::open(&path, owner).map_err(|it| store_failure(&path, &it))
+}
 
-    /// Works in a thread of its own, until nobody asks any more.
-    pub fn start(mut self, inbox: Inbox) -> Result<Sender<Job>, Failure> {
+/// Takes what is to be done, and hands out what was done.
+type Ends<C> = (Sender<Job>, Receiver<Done<C>>);
+
+/// Where what was done goes: to the engine's thread, which is woken.
+struct Answers<C> {
+    done: Sender<Done<C>>,
+    inbox: Inbox,
+}
+
+impl<C> Clone for Answers<C> {
+    fn clone(&self) -> Answers<C> {
+        Answers { done: self.done.clone(), inbox: self.inbox.clone() }
+    }
+}
+
+impl<C> Answers<C> {
+    fn put(&self, done: Done<C>) {
+        // Where the engine has ended, so does the process.
+        if self.done.send(done).is_ok() {
+            self.inbox.put(Request::Done);
+        }
+    }
+}
+
+impl<C: Conduct> Keeper<C> {
+    /// Works in a thread of its own, until nobody asks any more. The inbox wakes the engine.
+    pub fn start(mut self, inbox: Inbox) -> Result<Ends<C::Core>, Failure> {
         let (sender, jobs) = mpsc::channel();
+        let (done, receiver) = mpsc::channel();
+        let answers = Answers { done, inbox };
         let work = move || {
             for job in jobs {
-                let done = self.perform(job).unwrap_or_else(|it| Some(Done::Failed(it)));
-                if let Some(done) = done {
-                    inbox.put(Request::Done(Box::new(done)));
+                // Within a change of session the next step comes first.
+                let is_within = matches!(job, Job::Store(_) | Job::OpenLog(_));
+                let done = self.perform(job, &answers).unwrap_or_else(|it| Some(Done::Failed(it)));
+                done.into_iter().for_each(|it| answers.put(it));
+                if !is_within {
+                    self.store.move_wal();
                 }
-                self.store.move_wal();
             }
         };
-        let thread = std::thread::Builder::new().name("keeper".to_owned()).spawn(work);
-        thread.map_err(|it| Failure::new(Exit::Fault, it))?;
-        Ok(sender)
+        in_thread("keeper", work)?;
+        Ok((sender, receiver))
     }
 
-    fn perform(&mut self, job: Job) -> Result<Option<Done>, Failure> {
+    fn perform(
+        &mut self,
+        job: Job,
+        answers: &Answers<C::Core>,
+    ) -> Result<Option<Done<C::Core>>, Failure> {
         Ok(match job {
             Job::Store(it) => {
                 self.reach(Step::Ended);
@@ -150,36 +187,68 @@ impl Keeper {
                 Some(done)
             }
             Job::OpenLog(it) => {
-                let done = self.open_log(it)?;
+                let session = it.session();
+                let ahead = self.ahead.take().map(begun).transpose()?;
+                let (opened, log) = self.cores.make(it, ahead.flatten())?;
                 self.reach(Step::Made);
-                Some(done)
+                Some(Done::Opened(session, opened, log))
+            }
+            Job::OpenAhead(session, keys) => {
+                let cores = self.cores.clone();
+                self.ahead = Some(in_thread("ahead", move || cores.begin(session, &keys))?);
+                None
             }
             Job::Mark(it) => {
                 self.store.mark_opened(it.session()).map_err(|it| self.failure(&it))?;
                 self.reach(Step::Marked);
                 Some(Done::Marked(it.marked()))
             }
-            Job::Recover(it) => Some(self.recover(it)?),
+            Job::Recover(it) if it.session() < self.cores.first => {
+                self.recover_aside(it, answers)?;
+                None
+            }
+            Job::Recover(it) => Some(recovered(&self.cores, it)?),
+            Job::SitOut(it) => {
+                self.store.sit_out(it.through()).map_err(|it| self.failure(&it))?;
+                tracing::info!(through = it.through(), "known which sessions are sat out");
+                Some(Done::SatOut(it.stored()))
+            }
             Job::Read(it) => self.read(it).unwrap_or_else(|cause| {
                 // The peer asks another replica. This one goes on: it needs none of these batches.
                 tracing::error!(%cause, "the store can't be read");
                 None
             }),
+            Job::Search(it) => match self.reader.finals(it.txs()) {
+                Ok(finals) => Some(Done::Searched(it.searched(&finals))),
+                Err(cause) => {
+                    // None of them is taken, as each may be final.
+                    tracing::error!(%cause, "the store can't be searched");
+                    None
+                }
+            },
             Job::Retired(session) => {
                 self.store.close(session).map_err(|it| self.failure(&it))?;
-                if !self.keeps_logs {
-                    remove_closed(&self.store, &self.logs)?;
-                }
+                let gone = |_| Failure::new(Exit::Fault, "the exporter's thread has ended");
+                self.exporter.send(()).map_err(gone)?;
                 None
             }
             Job::GrowKey(session) => {
-                Some(Done::Key(session, own_key(self.role.height, &self.master, session)?))
+                let Cores { role, master, .. } = &self.cores;
+                Some(Done::Key(session, own_key(role.height, master, session)?))
             }
             Job::DieAt(step) => {
                 self.dies_at = Some(step);
                 None
             }
         })
+    }
+
+    /// Opens the log of a session that has ended here in a thread of its own. That takes as long as a
+    /// start, and a change of session must not wait for it.
+    fn recover_aside(&self, it: Recover, answers: &Answers<C::Core>) -> Result<(), Failure> {
+        let (cores, answers) = (self.cores.clone(), answers.clone());
+        let work = move || answers.put(recovered(&cores, it).unwrap_or_else(Done::Failed));
+        in_thread("helper", work).map(drop)
     }
 
     fn reach(&self, step: Step) {
@@ -192,7 +261,7 @@ impl Keeper {
         store_failure(&self.path, error)
     }
 
-    fn store_end(&mut self, it: Store) -> Result<Done, Failure> {
+    fn store_end(&mut self, it: Store) -> Result<Done<C::Core>, Failure> {
         let ended = Arc::clone(it.ended());
         let stored = self.store.end(&Ended {
             session: ended.session,
@@ -208,56 +277,8 @@ impl Keeper {
         Ok(Done::Stored(it.stored(), ended.end()))
     }
 
-    /// The core of a session, with what it used of its log.
-    fn core(&self, session: u32, keys: &PublicKeys, log: &[u8]) -> Result<(Replica, usize), Error> {
-        // A replica that sits the session out has no key. No seal fits this one.
-        let keys: Vec<PublicKey> = keys.iter().map(|it| it.unwrap_or([0; 60])).collect();
-        Replica::open(&self.role, &secret_of(&self.master, session), &keys, log)
-    }
-
-    fn open_log(&mut self, it: OpenLog) -> Result<Done, Failure> {
-        let session = it.session();
-        let mut replica = match self.core(session, it.keys(), &[]) {
-            Ok((replica, _)) => replica,
-            Err(Error::WrongSecret) => {
-                tracing::error!(
-                    session,
-                    "the agreed key is not the own one; no part in the session"
-                );
-                return Ok(Done::Opened(session, it.other_key(), None));
-            }
-            Err(fault) => return Err(fault.into()),
-        };
-        let log = self.logs.make(session, &replica.header()?)?;
-        tracing::info!(session, "a log was made");
-        Ok(Done::Opened(session, it.opened(Timed::new(replica)), Some(log)))
-    }
-
-    fn recover(&mut self, it: Recover) -> Result<Done, Failure> {
-        let session = it.session();
-        let session_logs::Marked::Found(mut log, mut data) =
-            self.logs.open(session, HEADER_BYTES)?
-        else {
-            return Ok(lost(it, &"it is missing, or shorter than its header"));
-        };
-        let (mut replica, used) = match self.core(session, it.keys(), &data) {
-            Ok(opened) => opened,
-            Err(Error::NoMemory) => return Err(Failure::new(Exit::Core, Error::NoMemory)),
-            Err(fault) if session < self.first => return Ok(lost(it, &fault)),
-            Err(fault) => return Err(log.refused(fault)),
-        };
-        if used < data.len() {
-            tracing::warn!(session, bytes = data.len() - used, "a torn record was truncated");
-        }
-        data.truncate(used);
-        log.recover(&data)?;
-        let header = replica.header()?.len();
-        tracing::info!(session, log_bytes = used, "a log was opened");
-        Ok(Done::Recovered(session, it.recovered(Timed::new(replica), data, header), Some(log)))
-    }
-
     /// None where the session has not ended here.
-    fn read(&self, read: Read) -> Result<Option<Done>, themis_store::Error> {
+    fn read(&self, read: Read) -> Result<Option<Done<C::Core>>, themis_store::Error> {
         let Some((position, digest)) = self.reader.end_of(read.session)? else {
             return Ok(None);
         };
@@ -271,10 +292,28 @@ impl Keeper {
     }
 }
 
-fn lost(it: Recover, cause: &dyn std::fmt::Display) -> Done {
+/// A thread that begins the next session: its first seal takes long, and meanwhile the session that
+/// runs may end.
+type Ahead<C> = JoinHandle<Result<Option<Begun<C>>, Failure>>;
+
+/// What was begun ahead, once it is.
+fn begun<C>(ahead: Ahead<C>) -> Result<Option<Begun<C>>, Failure> {
+    let gone = |_| Err(Failure::new(Exit::Fault, "a thread has panicked"));
+    ahead.join().unwrap_or_else(gone)
+}
+
+fn in_thread<T: Send + 'static>(
+    name: &str,
+    work: impl FnOnce() -> T + Send + 'static,
+) -> Result<JoinHandle<T>, Failure> {
+    let thread = std::thread::Builder::new().name(name.to_owned()).spawn(work);
+    thread.map_err(|it| Failure::new(Exit::Fault, it))
+}
+
+fn recovered<C: Conduct>(cores: &Cores<C>, it: Recover) -> Result<Done<C::Core>, Failure> {
     let session = it.session();
-    tracing::error!(session, %cause, "a log is lost: the replica has no part in this session");
-    Done::Recovered(session, it.lost(), None)
+    let (recovered, log) = cores.recover(it)?;
+    Ok(Done::Recovered(session, recovered, log))
 }
 
 /// The public key of a replica's session.

@@ -183,4 +183,51 @@ mod tests {
         link.queue().take(&mut out, now + STALE_AFTER * 2);
         assert_eq!((out.len(), link.room(), link.dropped()), (0, MAX_QUEUED, 5));
     }
+
+    /// What a peer reads over a connection, until it has the last frame. It starts once all were sent.
+    async fn passed_on(sent: &[Bytes]) -> Vec<Bytes> {
+        let (near, mut far) = tokio::io::duplex(1 << 16);
+        let link = Link::new(1);
+        let now = Instant::now();
+        let read = async {
+            for frame in sent {
+                link.send(frame.clone(), now);
+                tokio::task::yield_now().await; // so that some are written meanwhile
+            }
+            let mut got = Vec::new();
+            while got.last() != sent.last() {
+                let mut head = [0; 4];
+                far.read_exact(&mut head).await.unwrap();
+                let mut frame = head.to_vec();
+                frame.resize(4 + u32::from_be_bytes(head) as usize, 0);
+                far.read_exact(&mut frame[4..]).await.unwrap();
+                got.push(Bytes::from(frame));
+            }
+            got
+        };
+        tokio::select! {
+            got = read => got,
+            _ = link.serve(Box::new(near), &[]) => Vec::new(),
+        }
+    }
+
+    fn framed(number: u8, size: u32) -> Bytes {
+        let body = vec![number; size as usize];
+        Bytes::from([&size.to_be_bytes()[..], &body].concat())
+    }
+
+    #[tokio::test]
+    async fn frames_come_in_order() {
+        let sent: Vec<Bytes> = (0..100).map(|it| framed(it, u32::from(it) * 700)).collect();
+        assert_eq!(passed_on(&sent).await, sent);
+    }
+
+    #[tokio::test]
+    async fn a_peer_that_does_not_read_gets_the_newest() {
+        let sent: Vec<Bytes> = (0..250).map(|it| framed(it, 60_000)).collect();
+        let got = passed_on(&sent).await;
+        assert!(got.len() > 10 && got.len() < sent.len());
+        let kept: Vec<Bytes> = sent.iter().filter(|it| got.contains(it)).cloned().collect();
+        assert_eq!(got, kept);
+    }
 }

@@ -154,6 +154,16 @@ mod tests {
         std::fs::remove_file(path).unwrap();
     }
 
+    /// As a sync that failed before may have left them in the system's memory alone.
+    #[test]
+    fn the_last_records_are_written_again_and_a_torn_one_goes() {
+        let (mut log, path) = opened("again");
+        std::fs::write(&path, b"what a sync lost").unwrap();
+        log.recover(b"header one").unwrap();
+        assert_eq!((std::fs::read(&path).unwrap(), log.end), (b"header one".to_vec(), 10));
+        std::fs::remove_file(path).unwrap();
+    }
+
     #[test]
     fn one_process_has_it_and_a_missing_one_is_refused() {
         let (_log, path) = opened("locked");

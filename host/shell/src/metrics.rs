@@ -32,8 +32,9 @@ pub struct Counted<'a> {
 }
 
 /// The counts of the engine: their names, those of their metrics, and what they count.
-const COUNTS: [(&str, &str, &str); 12] = [
+const COUNTS: [(&str, &str, &str); 13] = [
     ("ticks", "ticks_total", "Views that this replica asked for."),
+    ("joins", "joins_total", "Of the ticks, those to a view that an honest peer had reached."),
     ("again", "prepared_again_total", "Events that had to be prepared once more."),
     ("blocks asked", "block_requests_total", "Requests for missing blocks."),
     ("reason", "turns_total", "Turns, by the number of their reason in themis.h; 0 is done."),

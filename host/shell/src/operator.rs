@@ -1,9 +1,11 @@
 //! The operator's socket: a Unix socket next to the replica's configuration, which only the user
 //! that runs the replica can open. No client can reach it, and none can keep an operator from it.
 //!
-//!     status              one line of JSON
-//!     close               takes no more transactions; answers ok
-//!     fault ..            for tests: makes a fault; answers ok, or bad CAUSE
+//! ```text
+//! status              one line of JSON
+//! close [SESSION]     has this session end, or the one that the status names; answers ok, or bad CAUSE
+//! fault ..            for tests: makes a fault; answers ok, or bad CAUSE
+//! ```
 
 use std::io::{BufRead, BufReader, Write};
 use std::os::unix::fs::PermissionsExt;
@@ -98,10 +100,11 @@ impl OperatorPort {
     async fn answer(&self, words: &[&str]) -> io::Result<String> {
         Ok(match words {
             ["status"] => self.inbox.ask(Request::Status).await?,
-            ["close"] => {
-                self.inbox.ask(Request::Close).await?;
-                "ok".to_owned()
-            }
+            ["close"] => self.close(None).await?,
+            ["close", session] => match session.parse() {
+                Ok(session) => self.close(Some(session)).await?,
+                Err(_) => "bad no session".to_owned(),
+            },
             ["fault", words @ ..] if self.allows_faults => {
                 let words = words.iter().map(|it| (*it).to_owned()).collect();
                 let order = |answer: oneshot::Sender<bool>| Request::Fault { words, answer };
@@ -110,6 +113,11 @@ impl OperatorPort {
             }
             _ => "bad no such command".to_owned(),
         })
+    }
+
+    async fn close(&self, session: Option<u32>) -> io::Result<String> {
+        let ended = self.inbox.ask(|answer| Request::Close { session, answer }).await?;
+        Ok(ended.map_or_else(|cause| format!("bad {cause}"), |()| "ok".to_owned()))
     }
 }
 
@@ -140,9 +148,19 @@ pub fn print_status(config: &Path) -> Result<(), Failure> {
     }
 }
 
-/// The command `close`.
+/// The command `close`. It names the session, since another one may run once the order arrives.
 pub fn close(config: &Path) -> Result<(), Failure> {
-    ask(config, "close").map(|answer| println!("{answer}"))
+    let status: Value = serde_json::from_str(&ask(config, "status")?).unwrap_or(Value::Null);
+    let session = status.get("session").and_then(Value::as_u64);
+    let session = session.ok_or_else(|| Failure::new(Exit::Fault, "its answer is no status"))?;
+    let answer = ask(config, &format!("close {session}"))?;
+    match answer.strip_prefix("bad ") {
+        None => {
+            println!("{answer}");
+            Ok(())
+        }
+        Some(cause) => Err(Failure::new(Exit::Usage, cause)),
+    }
 }
 
 /// The answer of a running replica to one line.
@@ -181,7 +199,10 @@ mod tests {
             for request in receiver {
                 let is_heard = match request {
                     Request::Status(answer) => answer.send("{\"fault\":null}".to_owned()).is_ok(),
-                    Request::Close(answer) => answer.send(()).is_ok(),
+                    Request::Close { session: None | Some(4), answer } => {
+                        answer.send(Ok(())).is_ok()
+                    }
+                    Request::Close { answer, .. } => answer.send(Err("why".to_owned())).is_ok(),
                     Request::Fault { words, answer } => answer.send(words == ["heal"]).is_ok(),
                     _ => panic!("no operator asks that"),
                 };
@@ -209,6 +230,12 @@ mod tests {
         assert_eq!(fs::metadata(&path).unwrap().permissions().mode() & 0o777, 0o600);
         assert_eq!(ask_at(&path, "status").unwrap(), "{\"fault\":null}");
         assert_eq!(ask_at(&path, "close").unwrap(), "ok");
+        assert_eq!(ask_at(&path, "close 4").unwrap(), "ok");
+        assert_eq!(ask_at(&path, "close 5").unwrap(), "bad why");
+        for session in ["", "x", "-1", "4294967296", "4 5"] {
+            let answer = ask_at(&path, &format!("close {session}")).unwrap();
+            assert!(session.is_empty() || answer.starts_with("bad no s"), "{session}: {answer}");
+        }
         // Faults are for tests, and clients' commands are not for operators.
         for line in ["fault heal", "submit 1.1.0", "follow 0", ""] {
             assert_eq!(ask_at(&path, line).unwrap(), "bad no such command");

@@ -53,3 +53,27 @@ impl ReceiptLog {
         self.lines.clear();
     }
 }
+
+#[cfg(test)]
+mod tests {
+    use super::*;
+    use themis_engine::tx::Tx;
+
+    #[test]
+    fn lines_in_their_order() {
+        let name = format!("themisd-{}.receipts", std::process::id());
+        let path = std::env::temp_dir().join(name);
+        for number in 0..2 {
+            let mut log = ReceiptLog::open(&path).unwrap();
+            log.put(Note::Received(Tx { client: 1, number, payload: 9 }));
+            log.put(Note::Heard(2, Tx { client: 3, number, payload: 0 }));
+            log.flush();
+        }
+        let text = std::fs::read_to_string(&path).unwrap();
+        assert_eq!(
+            text,
+            "start\nreceived 1.0.9\nheard 2 3.0.0\nstart\nreceived 1.1.9\nheard 2 3.1.0\n"
+        );
+        std::fs::remove_file(path).unwrap();
+    }
+}

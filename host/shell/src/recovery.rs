@@ -2,22 +2,24 @@
 //!
 //! A change of session has four steps, each durable before the next: the end of the session is
 //! stored, the log of the next one is made, it is marked as opened, and only then is anything
-//! sealed in it. A crash leaves one of these states. Each step may be made again.
+//! sent in it. A crash leaves one of these states. Each step may be made again.
 //!
 //! | Store | Log | What happened | The start |
 //! |---|---|---|---|
-//! | none | any | the store is lost, or was never made | is refused: status 5 |
+//! | none | any | the store is lost, or was never made | is refused: status 5 (`rejoin` makes another one) |
+//! | made again, and it is not known what is sat out | none | its first start | opens no log before the others have said where they are |
 //! | s runs (marked) | whole | a crash while session s ran | replays it |
 //! | s runs | a torn record at its end | a crash in a write | truncates the record, and replays the rest |
 //! | s runs | a corrupt record | the disk changed it | is refused: status 5 |
-//! | s runs | missing, or shorter than a header | it is lost | never makes it again: the replica sits session s out |
+//! | s runs | missing, or shorter than its beginning | it is lost | never makes it again: the replica sits session s out |
+//! | s runs | of s+1, with its beginning alone | it was made ahead | makes it again, ahead |
 //! | s comes next | none, or one that was being made | a crash after the end of s-1 was stored | makes it |
-//! | s comes next | torn header, or no record | a crash before the mark | makes it again, and marks it |
-//! | s comes next | with records | the store is older than it was | is refused: status 5 |
+//! | s comes next | its beginning, whole or torn | a crash before the mark | makes it again, and marks it |
+//! | s comes next | with more | the store is older than it was | is refused: status 5 |
 //! | s comes next | of another replica or session | files were mixed up | is refused: status 5 |
-//! | s-1 has ended | of s-1, whole or torn at its end | | replays it too: others may be behind |
+//! | s-1 has ended | of s-1, whole or torn at its end | | replays it once a peer is behind |
 //! | s-1 has ended | of s-1, missing or corrupt | it is lost | helps nobody with s-1 |
-//! | s-1 is closed | of s-1 | no replica needs it, or its history was taken from others | does not open it; removes it unless `keep_logs` |
+//! | s-1 is closed | of s-1 | no replica needs it, or its history was taken from others | does not open it; exports its account and removes it, unless `keep_logs` |
 //! | s is the last | of a later session | the store is older than it was | is refused: status 5 |
 //! | corrupt, newer, or of another replica or cluster | any | | is refused by name: status 5 |
 //! | in use | any | another process has the replica | is refused: status 4 |
@@ -25,7 +27,7 @@
 use std::fs::{File, OpenOptions};
 use std::path::{Path, PathBuf};
 
-use themis_store::{Error, History, Identity, PublicKeys, State, Store};
+use themis_store::{Error, History, Identity, PublicKeys, Store};
 
 use crate::exit::{Exit, Failure};
 use crate::session_logs::SessionLogs;
@@ -86,7 +88,8 @@ pub fn store_failure(path: &Path, error: &Error) -> Failure {
         | Error::OutOfTurn { .. }
         | Error::OtherEnd(_)
         | Error::OtherDigest(_)
-        | Error::Twice(_) => Exit::LogRefused,
+        | Error::Twice(_)
+        | Error::NeverLost => Exit::LogRefused,
     };
     Failure::new(exit, format!("{}: {error}", path.display()))
 }
@@ -100,13 +103,33 @@ pub fn create(
     keys: &PublicKeys,
 ) -> Result<(), Failure> {
     let _lock = Lock::take(folder, owner.replica)?;
+    let path = without_logs(folder, owner)?;
+    Store::create(&path, owner, session, setting, keys).map_err(|it| store_failure(&path, &it))
+}
+
+/// Makes the store of a replica that has lost its first one.
+pub fn create_again(
+    folder: &Path,
+    owner: &Identity,
+    session: u32,
+    setting: &str,
+    keys: &PublicKeys,
+) -> Result<(), Failure> {
+    let _lock = Lock::take(folder, owner.replica)?;
+    let path = without_logs(folder, owner)?;
+    let made = Store::create_again(&path, owner, session, setting, keys);
+    made.map_err(|it| store_failure(&path, &it))
+}
+
+/// The file of a store that is to be made. No log is there that it would not know of.
+fn without_logs(folder: &Path, owner: &Identity) -> Result<PathBuf, Failure> {
     let path = store_path(folder, owner.replica);
     let logs = SessionLogs::new(folder.to_path_buf(), owner.replica, true).sessions()?;
     if !logs.is_empty() {
         let text = format!("{}: there are logs of sessions: the replica has run", path.display());
         return Err(Failure::new(Exit::LogRefused, text));
     }
-    Store::create(&path, owner, session, setting, keys).map_err(|it| store_failure(&path, &it))
+    Ok(path)
 }
 
 /// Opens a replica's store, and compares it with the logs in its folder.
@@ -118,7 +141,12 @@ pub fn open(folder: &Path, owner: &Identity, is_synced: bool) -> Result<Found, F
     let history = store.history().map_err(refused)?;
     let logs = SessionLogs::new(folder.to_path_buf(), owner.replica, is_synced);
     let last = history.session.number;
-    if let Some(later) = logs.sessions()?.last().filter(|it| **it > last) {
+    let mut later = logs.sessions()?;
+    later.retain(|it| *it > last);
+    if later == [last + 1] && logs.has_only_begun(last + 1)? {
+        later.clear(); // it was made ahead
+    }
+    if let Some(later) = later.last() {
         let text = format!(
             "{}: the last session is {last}, but there is a log of session {later}. The store is \
              older than it was",
@@ -127,18 +155,6 @@ pub fn open(folder: &Path, owner: &Identity, is_synced: bool) -> Result<Found, F
         return Err(Failure::new(Exit::LogRefused, text));
     }
     Ok(Found { store, history, logs, lock })
-}
-
-/// Removes the logs of closed sessions: those of before, where a crash left them, too.
-pub fn remove_closed(store: &Store, logs: &SessionLogs) -> Result<(), Failure> {
-    for session in logs.sessions()? {
-        let found = store.session(session);
-        let found = found.map_err(|it| store_failure(&logs.path(session), &it))?;
-        if found.is_some_and(|it| it.state == State::Closed) {
-            logs.remove(session)?;
-        }
-    }
-    Ok(())
 }
 
 #[cfg(test)]

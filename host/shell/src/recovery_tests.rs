@@ -1,17 +1,15 @@
 //! Each row of the table, and crashes between the steps of a change of session.
 
 use std::fs;
-use std::thread::sleep;
-use std::time::Duration;
 
 use themis_engine::tx::Tx;
-use themis_store::{chain, Ended};
+use themis_store::{chain, Ended, State};
 
 use super::*;
-use crate::session_logs::Marked;
+use crate::session_logs::{Marked, BEGINNING_BYTES};
 
 const HEADER: &[u8] = b"the header of a log";
-const RECORD: &[u8] = b" and a record";
+const RECORD: &[u8] = &[b'.'; 2 * BEGINNING_BYTES];
 
 /// A folder that goes with the test.
 struct Folder(PathBuf);
@@ -26,15 +24,7 @@ impl Folder {
         folder
     }
 
-    /// Opens it. A process that another test starts at this moment has a lock too that was just
-    /// released, until it is another program.
     fn open(&self) -> Result<Found, Failure> {
-        for _ in 0..100 {
-            match open(&self.0, &owner(), true) {
-                Err(it) if it.exit == Exit::LogInUse => sleep(Duration::from_millis(10)),
-                other => return other,
-            }
-        }
         open(&self.0, &owner(), true)
     }
 
@@ -188,6 +178,27 @@ fn a_log_that_is_newer_than_its_store() {
     assert_eq!(folder.exit(), Some(Exit::LogRefused));
 }
 
+/// The log of the next session is made while this one runs.
+#[test]
+fn a_log_that_was_made_ahead() {
+    let folder = Folder::new("ahead");
+    let mut found = folder.open().unwrap();
+    run(&mut found);
+    drop(found.logs.make(1, HEADER).unwrap());
+    drop(found);
+    let mut found = folder.open().unwrap();
+    assert_eq!(found.history.session.number, 0);
+    drop(found.logs.make(1, HEADER).unwrap());
+    end(&mut found.store, false);
+    run(&mut found);
+    assert_eq!(data_of(&found, 1), [HEADER, RECORD].concat());
+    drop(found);
+    // No log is made so far ahead.
+    assert_eq!(folder.exit(), None);
+    fs::write(folder.log(3), HEADER).unwrap();
+    assert_eq!(folder.exit(), Some(Exit::LogRefused));
+}
+
 #[test]
 fn a_log_of_another_replica() {
     let folder = Folder::new("another");
@@ -218,14 +229,12 @@ fn the_session_before() {
     // Once it is closed, no start opens its log, which may still be there.
     fs::rename(folder.0.join("aside"), folder.log(0)).unwrap();
     let mut found = folder.open().unwrap();
-    remove_closed(&found.store, &found.logs).unwrap();
-    assert!(folder.log(0).exists());
     found.store.close(0).unwrap();
     drop(found);
     let found = folder.open().unwrap();
     assert_eq!(found.history.helped, None);
     assert_eq!(found.logs.sessions().unwrap(), [0, 1]);
-    remove_closed(&found.store, &found.logs).unwrap();
+    found.logs.remove(0).unwrap();
     assert_eq!(found.logs.sessions().unwrap(), [1]);
 }
 

@@ -1,4 +1,4 @@
-//! Logging: a JSON object a line, to standard error, as the Python host writes it.
+//! Logging: a JSON object a line, to standard error.
 
 use std::fmt::{self, Debug, Write};
 

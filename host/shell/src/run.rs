@@ -11,11 +11,12 @@ use tokio::sync::{oneshot, Semaphore};
 
 use crate::batches::Batches;
 use crate::client_port::ClientPort;
+use crate::conduct::Conduct;
 use crate::config::Setup;
 use crate::exit::{Exit, Failure};
 use crate::identity::ClientTrust;
 use crate::input::{Inbox, Request};
-use crate::keeper::Keeper;
+use crate::keeper;
 use crate::link::Link;
 use crate::operator::OperatorPort;
 use crate::peer_port::{PeerPort, MAX_WAITING};
@@ -29,16 +30,18 @@ pub fn jitter() -> f64 {
     drawn as f64 / u64::MAX as f64
 }
 
-/// Runs the replica of a configuration until SIGTERM or SIGINT. `is_new`: it has never run, and has
-/// no store of its sessions yet.
-pub fn run(config: &Path, is_new: bool) -> Result<(), Failure> {
+/// Runs the replica of a configuration until SIGTERM or SIGINT.
+pub fn run<C: Conduct>(config: &Path) -> Result<(), Failure> {
     let setup = Arc::new(Setup::load(config)?);
+    let refused = |cause| Failure::new(Exit::Config, format!("{}: {cause}", config.display()));
+    let own = &setup.config;
+    let conduct = C::of(&own.deeds, setup.place(), own.sessions).map_err(refused)?;
     let (trust, client_trust) = (Trust::new(&setup)?, ClientTrust::new(&setup)?);
     let replicas = || 0..setup.cluster.n;
-    let found = setup.config.sessions.then(|| recover(&setup, is_new)).transpose()?;
+    let found = setup.config.sessions.then(|| recover(&setup)).transpose()?;
     let batches = match &found {
         Some(found) => {
-            let reader = Keeper::reader(&setup.folder, &owner(&setup))?;
+            let reader = keeper::reader(&setup.folder, &owner(&setup))?;
             Batches::over(reader, found.history.session.first)
         }
         None => Batches::new(),
@@ -49,8 +52,11 @@ pub fn run(config: &Path, is_new: bool) -> Result<(), Failure> {
         batches: Arc::new(batches),
     };
     let worker = match found {
-        Some(it) => Work::Many(Box::new(SessionsWorker::open(setup.clone(), shared.clone(), it)?)),
-        None => Work::One(Box::new(Worker::open(setup.clone(), shared.clone())?)),
+        Some(found) => {
+            let opened = SessionsWorker::open(setup.clone(), shared.clone(), found, conduct)?;
+            Work::Many(Box::new(opened))
+        }
+        None => Work::One(Box::new(Worker::open(setup.clone(), shared.clone(), conduct)?)),
     };
     let runtime = tokio::runtime::Builder::new_current_thread().enable_all().build();
     let runtime = runtime.map_err(|it| Failure::new(Exit::Fault, it))?;
@@ -58,17 +64,17 @@ pub fn run(config: &Path, is_new: bool) -> Result<(), Failure> {
 }
 
 /// The engine's thread: of one session, or of many.
-enum Work {
-    One(Box<Worker>),
-    Many(Box<SessionsWorker>),
+enum Work<C: Conduct> {
+    One(Box<Worker<C>>),
+    Many(Box<SessionsWorker<C>>),
 }
 
 /// Opens the ports, and serves them next to the engine's thread until that ends.
-async fn serve(
+async fn serve<C: Conduct>(
     setup: &Setup,
     (trust, client_trust): (Trust, ClientTrust),
     shared: Shared,
-    worker: Work,
+    worker: Work<C>,
 ) -> Result<(), Failure> {
     let network = |fault| Failure::new(Exit::Network, fault);
     let me = setup.me() as usize;

@@ -7,30 +7,37 @@ use std::sync::mpsc::{Receiver, RecvTimeoutError, Sender};
 use std::sync::Arc;
 use std::time::Instant;
 
-use themis_engine::sessions::history::{History, Restart};
+use bytes::Bytes;
+use themis_engine::sessions::frames::{in_session, SessionFrame};
+use themis_engine::sessions::history::{History, MadeAgain, Restart};
 use themis_engine::sessions::{Input, Output, Sessions};
 use themis_engine::{Answer, Ticket, Time};
-use themis_store::{Identity, State};
+use themis_store::{Identity, Origin, State};
 use tokio::sync::oneshot;
 
+use crate::conduct::Conduct;
 use crate::config::Setup;
+use crate::cores::Cores;
 use crate::exit::{Exit, Failure};
+use crate::exporter::{Exporter, Keeping};
 use crate::fault::order;
 use crate::input::{Inbox, Request};
-use crate::keeper::{Done, Job, Keeper, Step};
+use crate::keeper::{self, Done, Job, Keeper, Step};
 use crate::link::Link;
 use crate::log::EventLog;
 use crate::observed::Observed;
 use crate::receipt_log::ReceiptLog;
 use crate::recovery::{self, Found, Lock};
-use crate::timed::{Spent, Timed};
+use crate::sys;
+use crate::timed::Spent;
 use crate::worker::{Shared, MAX_LOGGED_FAULTS, MAX_TAKEN};
 
 /// The engine over sessions, and all that it touches.
-pub struct SessionsWorker {
+pub struct SessionsWorker<C: Conduct> {
     setup: Arc<Setup>,
-    sessions: Sessions<Timed>,
-    keeper: Keeper,
+    sessions: Sessions<C::Core>,
+    conduct: C,
+    keeper: Keeper<C>,
     shared: Shared,
     receipts: Option<ReceiptLog>,
     start: Instant,
@@ -38,10 +45,13 @@ pub struct SessionsWorker {
 }
 
 /// The same while it works.
-struct Working {
+struct Working<C: Conduct> {
     setup: Arc<Setup>,
-    sessions: Sessions<Timed>,
+    sessions: Sessions<C::Core>,
+    conduct: C,
     jobs: Sender<Job>,
+    /// What the keeper has done.
+    done: Receiver<Done<C::Core>>,
     /// The logs that are open, by session.
     logs: HashMap<u32, EventLog>,
     shared: Shared,
@@ -59,10 +69,25 @@ pub fn owner(setup: &Setup) -> Identity {
     Identity { cluster: setup.session_digest(), replica: setup.me() }
 }
 
+/// What the engine knows of a store that was lost before this one was made. A number that nobody can
+/// foresee binds the answers of peers to this start.
+fn made_again(origin: Origin) -> Result<Option<MadeAgain>, Failure> {
+    Ok(match origin {
+        Origin::First => None,
+        Origin::Again { sits_out: Some(through) } => Some(MadeAgain::SitsOut { through }),
+        Origin::Again { sits_out: None } => {
+            let mut drawn = [0; 8];
+            sys::draw(&mut drawn).map_err(|it| Failure::new(Exit::Fault, it))?;
+            Some(MadeAgain::Unknown { drawn: u64::from_be_bytes(drawn) })
+        }
+    })
+}
+
 /// What the engine starts with.
-fn restart_of(history: themis_store::History) -> Restart {
-    let themis_store::History { session, carried, helped, windows } = history;
-    Restart {
+fn restart_of(history: themis_store::History) -> Result<Restart, Failure> {
+    let themis_store::History { session, carried, helped, windows, origin } = history;
+    Ok(Restart {
+        made_again: made_again(origin)?,
         is_opened: session.state == State::Opened,
         helped: helped.map(|it| it.keys),
         history: History {
@@ -73,47 +98,59 @@ fn restart_of(history: themis_store::History) -> Restart {
             carried,
             windows,
         },
-    }
+    })
 }
 
-impl SessionsWorker {
+impl<C: Conduct> SessionsWorker<C> {
     /// Reads what is durable. Logs are opened once it runs.
     pub fn open(
         setup: Arc<Setup>,
         shared: Shared,
         found: Found,
-    ) -> Result<SessionsWorker, Failure> {
+        conduct: C,
+    ) -> Result<SessionsWorker<C>, Failure> {
         let Found { store, history, logs, lock } = found;
-        if !setup.config.keep_logs {
-            recovery::remove_closed(&store, &logs)?;
-        }
+        let exporter = Exporter {
+            config: setup.path.clone(),
+            reader: keeper::reader(&setup.folder, &owner(&setup))?,
+            logs: logs.clone(),
+            keeping: Keeping { logs: setup.config.keep_logs, accounts: setup.config.accounts },
+        };
         let keeper = Keeper {
             path: recovery::store_path(&setup.folder, setup.me()),
             store,
-            reader: Keeper::reader(&setup.folder, &owner(&setup))?,
-            logs,
-            keeps_logs: setup.config.keep_logs,
-            role: setup.role()?,
-            master: setup.master()?,
+            reader: keeper::reader(&setup.folder, &owner(&setup))?,
+            cores: Cores {
+                logs,
+                role: setup.role()?,
+                master: setup.master()?,
+                first: history.session.number,
+                conduct: conduct.clone(),
+            },
+            ahead: None,
+            exporter: exporter.start()?,
             setting: setup.setting_line(),
-            first: history.session.number,
             dies_at: None,
         };
         let (place, options) = (setup.place(), setup.options());
-        let sessions = Sessions::open(place, options, restart_of(history), Time::default());
+        let restart = restart_of(history)?;
+        let sessions = Sessions::open(place, options, restart, Time::default());
         let receipts = setup.receipts_path().map(|it| ReceiptLog::open(&it)).transpose()?;
         let start = Instant::now();
-        Ok(SessionsWorker { setup, sessions, keeper, shared, receipts, start, lock })
+        Ok(SessionsWorker { setup, sessions, conduct, keeper, shared, receipts, start, lock })
     }
 
     /// Works until it is told to stop, or until something fails.
     pub fn run(self, requests: &Receiver<Request>, inbox: Inbox) -> Result<(), Failure> {
-        let SessionsWorker { setup, sessions, keeper, shared, receipts, start, lock } = self;
-        let jobs = keeper.start(inbox)?;
+        let SessionsWorker { setup, sessions, conduct, keeper, shared, receipts, start, lock } =
+            self;
+        let (jobs, done) = keeper.start(inbox)?;
         let mut working = Working {
             setup,
             sessions,
+            conduct,
             jobs,
+            done,
             logs: HashMap::new(),
             shared,
             receipts,
@@ -129,18 +166,12 @@ impl SessionsWorker {
     }
 }
 
-/// Opens what is durable of a replica over sessions. `is_new`: it has never run, so it has no store.
-pub fn recover(setup: &Setup, is_new: bool) -> Result<Found, Failure> {
-    let owner = owner(setup);
-    if is_new {
-        let keys = setup.public_keys.iter().copied().map(Some).collect();
-        let first = setup.cluster.session;
-        recovery::create(&setup.folder, &owner, first, &setup.setting_line(), &keys)?;
-    }
-    recovery::open(&setup.folder, &owner, setup.config.fsync)
+/// Opens what is durable of a replica over sessions. `join` has made its store.
+pub fn recover(setup: &Setup) -> Result<Found, Failure> {
+    recovery::open(&setup.folder, &owner(setup), setup.config.fsync)
 }
 
-impl Working {
+impl<C: Conduct> Working<C> {
     fn now(&self) -> Time {
         Time::default() + self.start.elapsed()
     }
@@ -153,6 +184,7 @@ impl Working {
                 }
             }
             let has_worked = self.make_turns()?;
+            self.act()?;
             self.send_outputs()?;
             if has_worked {
                 continue;
@@ -190,6 +222,9 @@ impl Working {
         let now = self.now();
         match request {
             Request::SessionFrame { peer, frame } => {
+                if let SessionFrame::In { frame, .. } = &frame {
+                    self.conduct.receive(frame);
+                }
                 let room = self.shared.links[peer as usize].as_ref().map_or(0, Link::room);
                 self.sessions.take(Input::Frame { peer, frame, room }, now)?;
             }
@@ -197,7 +232,11 @@ impl Working {
                 self.shared.slots[peer as usize].add_permits(1);
                 self.note_bad_frame(Some(peer), "a frame without its session");
             }
-            Request::Done(done) => self.take_done(*done, now)?,
+            Request::Done => {
+                for done in self.done.try_iter().collect::<Vec<_>>() {
+                    self.take_done(done, now)?;
+                }
+            }
             Request::Connected(peer) => self.sessions.take(Input::Connected(peer), now)?,
             Request::BadFrame { peer, cause } => self.note_bad_frame(peer, &cause),
             Request::Submit { ticket, txs, answer } => {
@@ -221,9 +260,9 @@ impl Working {
             Request::Find { tx, answer } => {
                 let _ = answer.send(self.find(&tx)?);
             }
-            Request::Close(answer) => {
-                self.sessions.take(Input::EndSession, now)?;
-                let _ = answer.send(());
+            Request::Close { session, answer } => {
+                let ended = self.sessions.end(session).map_err(|it| it.to_string());
+                let _ = answer.send(ended);
             }
             Request::Fault { words, answer } if words.first().is_some_and(|it| it == "die") => {
                 let step = words.get(1).and_then(|it| Step::of(it));
@@ -242,7 +281,7 @@ impl Working {
     }
 
     /// What the keeper has done.
-    fn take_done(&mut self, done: Done, now: Time) -> Result<(), Failure> {
+    fn take_done(&mut self, done: Done<C::Core>, now: Time) -> Result<(), Failure> {
         let input = match done {
             Done::Stored(stored, end) => {
                 self.shared.batches.stored(end);
@@ -258,11 +297,18 @@ impl Working {
                 self.logs.extend(log.map(|it| (session, it)));
                 Input::Recovered(recovered)
             }
+            Done::SatOut(sat_out) => Input::SatOut(sat_out),
             Done::Found(found) => Input::Found(found),
+            Done::Searched(searched) => Input::Searched(searched),
             Done::Key(session, key) => Input::Key { session, key },
             Done::Failed(failure) => return Err(failure),
         };
-        Ok(self.sessions.take(input, now)?)
+        let was_opened = matches!(input, Input::Recovered(_));
+        self.sessions.take(input, now)?;
+        if was_opened {
+            sys::return_free_memory();
+        }
+        Ok(())
     }
 
     /// Does what the engine asked for.
@@ -270,14 +316,10 @@ impl Working {
         let now = Instant::now();
         for output in self.sessions.outputs() {
             match output {
-                Output::Send { to, frame } => {
-                    if let Some(Some(link)) = self.shared.links.get(to as usize) {
-                        link.send(frame, now);
-                    }
-                }
+                Output::Send { to, frame } => self.send(to, frame, now),
                 Output::Broadcast(frame) => {
-                    for link in self.shared.links.iter().flatten() {
-                        link.send(frame.clone(), now);
+                    for peer in self.setup.place().others() {
+                        self.send(peer, frame.clone(), now);
                     }
                 }
                 Output::Answer(ticket, answer) => {
@@ -300,18 +342,42 @@ impl Working {
                 }
                 Output::GrowKey(session) => self.ask(Job::GrowKey(session))?,
                 Output::Read(it) => self.ask(Job::Read(it))?,
+                Output::Search(it) => self.ask(Job::Search(it))?,
                 Output::Store(it) => self.ask(Job::Store(it))?,
                 Output::OpenLog(it) => self.ask(Job::OpenLog(it))?,
+                Output::OpenAhead(session, keys) => self.ask(Job::OpenAhead(session, keys))?,
                 Output::Mark(it) => self.ask(Job::Mark(it))?,
                 Output::Recover(it) => self.ask(Job::Recover(it))?,
+                Output::SitOut(it) => self.ask(Job::SitOut(it))?,
                 Output::Retired(session) => {
                     self.logs.remove(&session);
                     self.ask(Job::Retired(session))?;
+                    sys::return_free_memory();
                 }
             }
         }
         if let Some(receipts) = &mut self.receipts {
             receipts.flush();
+        }
+        Ok(())
+    }
+
+    fn send(&mut self, to: u32, frame: Bytes, now: Instant) {
+        let link = self.shared.links.get(to as usize).and_then(Option::as_ref);
+        if let (Some(link), Some(frame)) = (link, self.conduct.send(to, frame)) {
+            link.send(frame, now);
+        }
+    }
+
+    /// What the conduct sends of its own, in the session that runs.
+    fn act(&mut self) -> Result<(), Failure> {
+        let (at, now) = (self.now(), Instant::now());
+        let session = self.sessions.session();
+        let Some(engine) = self.sessions.running() else { return Ok(()) };
+        for (to, frame) in self.conduct.act(engine, at)? {
+            if let Some(Some(link)) = self.shared.links.get(to as usize) {
+                link.send(in_session(session, &frame), now);
+            }
         }
         Ok(())
     }

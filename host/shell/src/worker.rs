@@ -5,14 +5,16 @@ use std::sync::mpsc::{Receiver, RecvTimeoutError};
 use std::sync::Arc;
 use std::time::Instant;
 
+use bytes::Bytes;
 use serde_json::{json, Map, Value};
 use themis::{Error, Replica};
-use themis_engine::core::Desk;
+use themis_engine::core::{Core, Desk};
 use themis_engine::tx::Tx;
 use themis_engine::{Answer, Engine, Input, Output, Restored, Status, Ticket, Time};
 use tokio::sync::{oneshot, Semaphore};
 
 use crate::batches::Batches;
+use crate::conduct::{Conduct, Opened};
 use crate::config::{hex, Setup};
 use crate::exit::{Exit, Failure};
 use crate::fault::order;
@@ -42,9 +44,10 @@ pub struct Shared {
 }
 
 /// The engine, and all that it touches.
-pub struct Worker {
+pub struct Worker<C: Conduct> {
     setup: Arc<Setup>,
-    engine: Engine<Timed>,
+    engine: Engine<C::Core>,
+    conduct: C,
     log: EventLog,
     receipts: Option<ReceiptLog>,
     shared: Shared,
@@ -56,29 +59,33 @@ pub struct Worker {
     was_over: bool,
 }
 
-impl Worker {
+impl<C: Conduct> Worker<C> {
     /// Opens the log, and plays it again.
-    pub fn open(setup: Arc<Setup>, shared: Shared) -> Result<Worker, Failure> {
+    pub fn open(setup: Arc<Setup>, shared: Shared, conduct: C) -> Result<Worker<C>, Failure> {
         let start = Instant::now();
         let disk = Disk { is_synced: setup.config.fsync, ..Disk::default() };
         let mut log = EventLog::open(setup.log_path(), disk)?;
-        let mut data = log.read()?;
-        let (mut replica, used) = open_replica(&setup, &log, &data)?;
+        let data = log.read()?;
+        let (role, secret, public_keys) = (setup.role()?, setup.secret()?, &setup.public_keys);
+        let opened = Opened { session: 0, role, secret, public_keys, log: &data };
+        let (mut replica, used) = open_replica(&opened, &log)?;
         if used < data.len() {
             tracing::warn!(bytes = data.len() - used, "a torn record was truncated");
         }
-        data.truncate(used);
-        log.recover(&data)?;
+        let opened = Opened { log: &data[..used], ..opened };
+        log.recover(opened.log)?;
         let header = replica.header()?.len();
         let (settled, carried) = (setup.settled_before()?, setup.carried_over()?);
-        let restored = Restored { log: &data, header, settled, carried, ..Restored::default() };
+        let restored =
+            Restored { log: opened.log, header, settled, carried, ..Restored::default() };
         let (place, options) = (setup.place(), setup.options());
-        let core = Timed::new(replica);
+        let core = conduct.core(Timed::new(replica), &opened)?;
         let engine = Engine::open(place, options, core, restored, Time::default())?;
         let receipts = setup.receipts_path().map(|it| ReceiptLog::open(&it)).transpose()?;
         let mut worker = Worker {
             setup,
             engine,
+            conduct,
             log,
             receipts,
             shared,
@@ -114,6 +121,7 @@ impl Worker {
                 }
             }
             let has_worked = self.make_turns()?;
+            self.act()?;
             self.send_outputs();
             if has_worked {
                 continue;
@@ -151,6 +159,7 @@ impl Worker {
         let now = self.now();
         match request {
             Request::Frame { peer, frame } => {
+                self.conduct.receive(&frame);
                 let room = self.shared.links[peer as usize].as_ref().map_or(0, Link::room);
                 self.engine.take(Input::Frame { peer, frame, room }, now)?;
             }
@@ -159,7 +168,7 @@ impl Worker {
                 self.shared.slots[peer as usize].add_permits(1);
                 self.note_bad_frame(Some(peer), "a frame of one of many sessions");
             }
-            Request::Done(_) => {}
+            Request::Done => {}
             Request::BadFrame { peer, cause } => self.note_bad_frame(peer, &cause),
             Request::Submit { ticket, txs, answer } => {
                 self.clients.insert(ticket, answer);
@@ -182,9 +191,15 @@ impl Worker {
             Request::Find { tx, answer } => {
                 let _ = answer.send(self.find(&tx)?);
             }
-            Request::Close(answer) => {
-                self.engine.take(Input::Close, now)?;
-                let _ = answer.send(());
+            Request::Close { session, answer } => {
+                let own = self.setup.cluster.session;
+                let ended = if let Some(other) = session.filter(|it| *it != own) {
+                    Err(format!("this is session {own}, not {other}"))
+                } else {
+                    self.engine.take(Input::Close, now)?;
+                    Ok(())
+                };
+                let _ = answer.send(ended);
             }
             Request::Fault { words, answer } => {
                 let disks = std::iter::once(&mut self.log.disk);
@@ -200,14 +215,10 @@ impl Worker {
         let now = Instant::now();
         for output in self.engine.outputs() {
             match output {
-                Output::Send { to, frame } => {
-                    if let Some(Some(link)) = self.shared.links.get(to as usize) {
-                        link.send(frame, now);
-                    }
-                }
+                Output::Send { to, frame } => self.send(to, frame, now),
                 Output::Broadcast(frame) => {
-                    for link in self.shared.links.iter().flatten() {
-                        link.send(frame.clone(), now);
+                    for peer in self.setup.place().others() {
+                        self.send(peer, frame.clone(), now);
                     }
                 }
                 Output::Answer(ticket, answer) => {
@@ -235,6 +246,24 @@ impl Worker {
         }
     }
 
+    fn send(&mut self, to: u32, frame: Bytes, now: Instant) {
+        let link = self.shared.links.get(to as usize).and_then(Option::as_ref);
+        if let (Some(link), Some(frame)) = (link, self.conduct.send(to, frame)) {
+            link.send(frame, now);
+        }
+    }
+
+    /// What the conduct sends of its own.
+    fn act(&mut self) -> Result<(), Failure> {
+        let (at, now) = (self.now(), Instant::now());
+        for (to, frame) in self.conduct.act(&mut self.engine, at)? {
+            if let Some(Some(link)) = self.shared.links.get(to as usize) {
+                link.send(frame, now);
+            }
+        }
+        Ok(())
+    }
+
     fn note_bad_frame(&mut self, peer: Option<u32>, cause: &str) {
         self.frame_faults += 1;
         if self.frame_faults <= MAX_LOGGED_FAULTS {
@@ -243,15 +272,14 @@ impl Worker {
     }
 
     fn note_the_end(&mut self) {
-        if !self.was_over {
-            let status = self.engine.status(self.now());
-            self.was_over = status.is_over;
-            if status.is_over {
-                let is_last_view = status.view >= self.setup.cluster.views;
-                let cause = if is_last_view { "all views" } else { "all views or transactions" };
-                tracing::error!(view = status.view, "the session is over: {cause} are used");
-            }
+        if self.was_over || !self.engine.is_over() {
+            return;
         }
+        self.was_over = true;
+        let view = self.engine.status(self.now()).view;
+        let is_last_view = view >= self.setup.cluster.views;
+        let cause = if is_last_view { "all views" } else { "all views or transactions" };
+        tracing::error!(view, "the session is over: {cause} are used");
     }
 
     /// Where the replica stands, and what it counted since its start, as a line of JSON.
@@ -263,7 +291,7 @@ impl Worker {
             frame_faults: self.frame_faults,
         };
         let mut fields = status_line(&self.setup, &self.engine.status(now), &standing);
-        for (name, spent) in self.engine.core_mut().all() {
+        for (name, spent) in C::timed(self.engine.core_mut()).all() {
             fields.insert(format!("{name}_us"), Value::from(spent.micros()));
             fields.insert(format!("{name} calls"), Value::from(spent.calls));
         }
@@ -283,7 +311,7 @@ impl Worker {
             frames_dropped: links.map(Link::dropped).sum(),
             bad_frames: self.frame_faults,
             syncs: self.syncs,
-            calls: self.engine.core_mut().all(),
+            calls: C::timed(self.engine.core_mut()).all(),
             latency: self.observed.latency.histogram(),
         };
         Pages { metrics: page_of(&status, &counted), fault: fault_of(&status, counted.quorum) }
@@ -306,7 +334,7 @@ impl Worker {
 
     /// What has become of a transaction.
     fn find(&mut self, tx: &Tx) -> Result<Found, Failure> {
-        let standing = self.engine.core_mut().standing(tx)?;
+        let standing = self.engine.core_mut().desk().standing(tx)?;
         Ok(Found { standing, position: self.observed.position_of(tx) })
     }
 }
@@ -346,10 +374,8 @@ pub fn status_line(setup: &Setup, it: &Status, standing: &Standing) -> Map<Strin
 }
 
 /// The core as its log leaves it, and how many bytes of the log are whole records.
-fn open_replica(setup: &Setup, log: &EventLog, data: &[u8]) -> Result<(Replica, usize), Failure> {
-    let (role, secret) = (setup.role()?, setup.secret()?);
-    let opened = Replica::open(&role, &secret, &setup.public_keys, data);
-    let (replica, used) = opened.map_err(|fault| match fault {
+fn open_replica(opened: &Opened, log: &EventLog) -> Result<(Replica, usize), Failure> {
+    let (replica, used) = opened.replica().map_err(|fault| match fault {
         Error::NoMemory => Failure::new(Exit::Core, fault),
         _ => log.refused(fault),
     })?;

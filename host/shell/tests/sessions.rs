@@ -1,215 +1,24 @@
-//! Five processes over sessions that follow one another: `themisd` itself, its logs and its store.
+//! Five processes over sessions that follow one another.
+
+mod cluster;
 
 use std::collections::BTreeSet;
 use std::fs;
-use std::io::{BufRead, BufReader, Read, Write};
-use std::net::{TcpListener, TcpStream};
-use std::os::unix::fs::PermissionsExt;
-use std::os::unix::net::UnixStream;
-use std::path::{Path, PathBuf};
-use std::process::{Child, Command, Stdio};
-use std::time::{Duration, Instant};
+use std::io::Write;
+use std::process::Command;
+use std::time::Instant;
 
-use themis::Height;
-use themis_engine::sessions::secret::secret_of;
-
-const REPLICAS: usize = 5;
-/// Nothing here depends on how long something takes, unless it hangs.
-const WITHIN: Duration = Duration::from_secs(240);
-const PAUSE: Duration = Duration::from_millis(50);
-
-/// A cluster on loopback, and its folder.
-struct Cluster {
-    folder: PathBuf,
-    clients: Vec<String>,
-    processes: Vec<Option<Child>>,
-}
-
-impl Drop for Cluster {
-    fn drop(&mut self) {
-        (0..REPLICAS).for_each(|it| self.kill(it));
-        let _ = fs::remove_dir_all(&self.folder);
-    }
-}
-
-fn hex(data: &[u8]) -> String {
-    data.iter().fold(String::new(), |text, it| text + &format!("{it:02x}"))
-}
-
-/// Addresses that nothing listens at.
-fn free_addresses(count: usize) -> Vec<String> {
-    let all: Vec<_> = (0..count).map(|_| TcpListener::bind("127.0.0.1:0").unwrap()).collect();
-    all.iter().map(|it| it.local_addr().unwrap().to_string()).collect()
-}
-
-impl Cluster {
-    fn new(name: &str) -> Cluster {
-        let folder = std::env::temp_dir().join(format!("themisd-{name}-{}", std::process::id()));
-        fs::create_dir_all(&folder).unwrap();
-        let mut publics = Vec::new();
-        for replica in 0..REPLICAS {
-            let master = [replica as u8 + 1; 32];
-            let secret = folder.join(format!("{replica}.secret"));
-            fs::write(&secret, hex(&master)).unwrap();
-            fs::set_permissions(&secret, fs::Permissions::from_mode(0o600)).unwrap();
-            let key = themis::public_key(Height::H5H5, &secret_of(&master, 0)).unwrap();
-            publics.push(hex(&key));
-            let config = format!(
-                "replica = {replica}\ncluster_file = \"cluster.toml\"\n\
-                 secret_file = \"{replica}.secret\"\nsessions = true\n\
-                 allow_faults = true\n"
-            );
-            fs::write(folder.join(format!("{replica}.toml")), config).unwrap();
-        }
-        let addresses = free_addresses(2 * REPLICAS);
-        let (peers, clients) = addresses.split_at(REPLICAS);
-        let shared = format!(
-            "session = 0\nn = {REPLICAS}\nf = 1\np = 1\nq = 1\nviews = 200\nheight = 505\n\
-             peers = {peers:?}\nclients = {clients:?}\npublics = {publics:?}\n\
-             certificates = []\ntransport = \"plain\"\n"
-        );
-        fs::write(folder.join("cluster.toml"), shared).unwrap();
-        let clients = clients.to_vec();
-        Cluster { folder, clients, processes: (0..REPLICAS).map(|_| None).collect() }
-    }
-
-    fn command(&self, replica: usize, is_new: bool) -> Command {
-        let mut command = Command::new(env!("CARGO_BIN_EXE_themisd"));
-        let path = self.folder.join(format!("{replica}.out"));
-        let out = fs::File::options().append(true).create(true).open(path).unwrap();
-        let config = self.folder.join(format!("{replica}.toml"));
-        command.arg("run").arg(config).stderr(out).stdin(Stdio::null());
-        command.args(is_new.then_some("--new"));
-        command
-    }
-
-    fn start(&mut self, replica: usize, is_new: bool) {
-        self.processes[replica] = Some(self.command(replica, is_new).spawn().unwrap());
-    }
-
-    fn kill(&mut self, replica: usize) {
-        if let Some(mut process) = self.processes[replica].take() {
-            process.kill().unwrap();
-            process.wait().unwrap();
-        }
-    }
-
-    /// Waits until a replica has died by itself.
-    fn wait_for_death(&mut self, replica: usize) {
-        let process = self.processes[replica].as_mut().unwrap();
-        let until = Instant::now() + WITHIN;
-        while process.try_wait().unwrap().is_none() {
-            assert!(Instant::now() < until, "replica {replica} lives");
-            std::thread::sleep(PAUSE);
-        }
-        self.processes[replica] = None;
-    }
-
-    /// How a start ends that is refused.
-    fn refusal(&self, replica: usize, is_new: bool) -> Option<i32> {
-        self.command(replica, is_new).status().unwrap().code()
-    }
-
-    /// The answer to a client's line.
-    fn ask(&self, replica: usize, line: &str) -> String {
-        self.answer_of(replica, || ask(TcpStream::connect(&self.clients[replica]).ok()?, line))
-    }
-
-    /// The answer to an operator's line.
-    fn order(&self, replica: usize, line: &str) -> String {
-        let path = self.folder.join(format!("{replica}.sock"));
-        self.answer_of(replica, || {
-            let stream = UnixStream::connect(&path).ok()?;
-            stream.set_read_timeout(Some(WITHIN)).ok()?;
-            ask(stream, line)
-        })
-    }
-
-    /// An answer, once there is one.
-    fn answer_of(&self, replica: usize, ask: impl Fn() -> Option<String>) -> String {
-        let until = Instant::now() + WITHIN;
-        loop {
-            if let Some(answer) = ask() {
-                return answer;
-            }
-            assert!(Instant::now() < until, "replica {replica} does not answer");
-            std::thread::sleep(PAUSE);
-        }
-    }
-
-    fn submit(&self, number: u32) {
-        let line = format!("submit 7.{number}.{}", number * 3);
-        for replica in (0..REPLICAS).filter(|it| self.processes[*it].is_some()) {
-            let answer = self.ask(replica, &line);
-            // Where others were quicker it is final already.
-            assert!(answer.starts_with("ok") || answer.starts_with("bad"), "{answer}");
-        }
-    }
-
-    /// Waits until a replica's status has what is wanted.
-    fn wait_for(&self, replica: usize, what: &str) {
-        let until = Instant::now() + WITHIN;
-        loop {
-            let status = self.order(replica, "status");
-            if status.contains(what) {
-                return;
-            }
-            assert!(Instant::now() < until, "replica {replica} has no {what}: {status}");
-            std::thread::sleep(PAUSE);
-        }
-    }
-
-    /// The list of a replica from a position on, until it holds all of these transactions.
-    fn follow(&self, replica: usize, from: usize, mut wanted: BTreeSet<String>) -> Vec<String> {
-        let mut stream = TcpStream::connect(&self.clients[replica]).unwrap();
-        stream.set_read_timeout(Some(WITHIN)).unwrap();
-        writeln!(stream, "follow {from}").unwrap();
-        let mut lines = Vec::new();
-        for line in BufReader::new(stream).lines() {
-            let line = line.unwrap();
-            line.split(' ').for_each(|it| {
-                wanted.remove(it);
-            });
-            lines.push(line);
-            if wanted.is_empty() {
-                return lines;
-            }
-        }
-        panic!("replica {replica} ends the list without {wanted:?}")
-    }
-}
-
-fn ask(mut stream: impl Read + Write, line: &str) -> Option<String> {
-    writeln!(stream, "{line}").ok()?;
-    let mut answer = String::new();
-    BufReader::new(stream).read_line(&mut answer).ok()?;
-    answer.ends_with('\n').then(|| answer.trim().to_owned())
-}
-
-fn texts(numbers: std::ops::RangeInclusive<u32>) -> BTreeSet<String> {
-    numbers.map(|it| format!("7.{it}.{}", it * 3)).collect()
-}
-
-/// The transactions of lines, in their order. The lines have these positions.
-fn txs_of(lines: &[String], from: usize) -> Vec<String> {
-    let mut txs = Vec::new();
-    for (position, line) in (from..).zip(lines) {
-        let rest = line.strip_prefix(&format!("batch {position}")).expect(line);
-        txs.extend(rest.split_whitespace().map(str::to_owned));
-    }
-    txs
-}
-
-fn has_log(folder: &Path, replica: usize, session: u32) -> bool {
-    folder.join(format!("{replica}-{session}.log")).exists()
-}
+use cluster::{
+    assert_taken, make_authority, texts, txs_of, Cluster, TlsClient, ACCOUNT_WITHIN, PAUSE,
+    REPLICAS, RUNNING,
+};
 
 /// A replica dies after each step of a change of session, and before the first. Each time it is in
 /// the next session after its start, with what all others have, and no log is made twice.
 #[test]
 fn killed_between_the_steps_of_a_change() {
     let mut cluster = Cluster::new("steps");
-    (0..REPLICAS).for_each(|it| cluster.start(it, true));
+    cluster.start_all();
     let mut number = 0;
     for (session, step) in (1..).zip(["ended", "stored", "made", "marked"]) {
         cluster.wait_for(1, "\"stage\":\"running\"");
@@ -217,12 +26,12 @@ fn killed_between_the_steps_of_a_change() {
         cluster.submit(number);
         cluster.follow(1, 0, texts(1..=number));
         assert_eq!(cluster.order(1, &format!("fault die {step}")), "ok");
-        (0..REPLICAS).for_each(|it| assert_eq!(cluster.order(it, "close"), "ok"));
+        cluster.close_all(session - 1);
         cluster.wait_for_death(1);
         let made = step == "made" || step == "marked";
-        assert_eq!(has_log(&cluster.folder, 1, session), made, "{step}");
-        cluster.start(1, false);
-        (0..REPLICAS).for_each(|it| cluster.wait_for(it, &format!("\"session\":{session},")));
+        assert!(cluster.has_log(1, session) || !made, "{step}"); // it may be made ahead
+        cluster.start(1);
+        (0..REPLICAS).for_each(|it| cluster.wait_for_session(it, session));
         cluster.wait_for(1, "\"stage\":\"running\"");
     }
     number += 1;
@@ -235,14 +44,18 @@ fn killed_between_the_steps_of_a_change() {
 #[test]
 fn one_list_over_sessions_kills_and_a_lost_log() {
     let mut cluster = Cluster::new("sessions");
-    assert_eq!(cluster.refusal(3, false), Some(5)); // there is no store, and no start makes one
-    (0..REPLICAS).for_each(|it| cluster.start(it, true));
+    // No start makes a store that is missing: it may have been lost.
+    let (store, aside) = (cluster.file(3, "3.store"), cluster.file(3, "aside"));
+    fs::rename(&store, &aside).unwrap();
+    assert_eq!(cluster.refusal(3), Some(5));
+    fs::rename(aside, store).unwrap();
+    cluster.start_all();
     (1..=3).for_each(|it| cluster.submit(it));
     cluster.follow(0, 0, texts(1..=3));
 
     // The first session ends, and the next one is there without an operator.
-    (0..REPLICAS).for_each(|it| assert_eq!(cluster.order(it, "close"), "ok"));
-    (0..REPLICAS).for_each(|it| cluster.wait_for(it, "\"session\":1,"));
+    cluster.close_all(0);
+    (0..REPLICAS).for_each(|it| cluster.wait_for_session(it, 1));
     (4..=6).for_each(|it| cluster.submit(it));
     let list = cluster.follow(0, 0, texts(1..=6));
     assert!(list.iter().any(|it| it.contains(" 0.0.0"))); // the marker
@@ -250,20 +63,18 @@ fn one_list_over_sessions_kills_and_a_lost_log() {
     // A crash. What is durable is there again, over both sessions, and a second process is refused.
     cluster.kill(4);
     (7..=8).for_each(|it| cluster.submit(it));
-    cluster.start(4, false);
-    cluster.wait_for(4, "\"session\":1,");
-    assert_eq!(cluster.refusal(4, false), Some(4));
+    cluster.start(4);
+    cluster.wait_for_session(4, 1);
+    assert_eq!(cluster.refusal(4), Some(4));
     cluster.follow(4, 0, texts(1..=8));
 
     // A replica that lost its log is in a later session again, and never made that log again.
+    cluster.wait_for(2, RUNNING);
+    let gone = cluster.session(2);
     cluster.kill(2);
-    fs::remove_file(cluster.folder.join("2-1.log")).unwrap();
-    assert_eq!(cluster.refusal(2, true), Some(5)); // it has run
-    cluster.start(2, false);
-    cluster.wait_for(2, "\"stage\":\"out\"");
-    (0..REPLICAS).for_each(|it| assert_eq!(cluster.order(it, "close"), "ok"));
-    cluster.wait_for(2, "\"session\":2,");
-    cluster.wait_for(2, "\"stage\":\"running\"");
+    fs::remove_file(cluster.file(2, &format!("2-{gone}.log"))).unwrap();
+    cluster.start(2);
+    let session = cluster.run_again(2, gone);
     (9..=12).for_each(|it| cluster.submit(it));
 
     let lists: Vec<_> = (0..REPLICAS).map(|it| cluster.follow(it, 0, texts(1..=12))).collect();
@@ -275,10 +86,76 @@ fn one_list_over_sessions_kills_and_a_lost_log() {
     }
     let tail = cluster.follow(1, 5, texts(9..=12));
     assert_eq!(tail[..3], lists[0][5..8]); // the same from any position
-    assert!(!has_log(&cluster.folder, 2, 1) && has_log(&cluster.folder, 2, 2));
+    assert!(!cluster.has_log(2, gone) && cluster.has_log(2, session));
+
+    // The log of a session that nobody needs goes, and its account is there without the secret.
+    let account = cluster.file(0, "0-0.account");
+    let until = Instant::now() + ACCOUNT_WITHIN;
+    while cluster.has_log(0, 0) || !account.exists() {
+        assert!(Instant::now() < until, "no account is exported");
+        std::thread::sleep(PAUSE);
+    }
+    let text = fs::read_to_string(&account).unwrap();
+    assert!(text.starts_with("{\"cluster\":") && text.lines().last().unwrap().contains("\"end\""));
+    assert!(!text.contains(&fs::read_to_string(cluster.file(0, "0.secret")).unwrap()));
+    let config = cluster.file(0, "0.toml");
+    let mut command = Command::new(env!("CARGO_BIN_EXE_themisd"));
+    let printed = command.arg("account").arg(config).args(["--session", "0"]).output().unwrap();
+    assert_eq!(String::from_utf8(printed.stdout).unwrap(), text);
 
     // What is final in this session is known, and what is final in an earlier one is refused.
     assert_eq!(cluster.ask(3, "submit 7.12.36"), "ok 0 1");
     let answer = cluster.ask(3, "submit 7.1.3");
     assert_eq!(answer, "bad 7.1.3: its number is below the window of its client");
+}
+
+/// Certificates and connections outlive sessions: those of clients, and those of replicas.
+#[test]
+fn tls_over_changes_of_session() {
+    let authority = std::env::temp_dir().join(format!("themisd-authority-{}", std::process::id()));
+    make_authority(&authority);
+    let signer = authority.join("authority.crt");
+    let mut cluster = Cluster::with("tls", &["--client-authority", signer.to_str().unwrap()]);
+    cluster.start_all();
+    (0..REPLICAS).for_each(|it| cluster.wait_for(it, "\"heard\":5"));
+    let mut clients: Vec<_> =
+        (0..REPLICAS).map(|it| TlsClient::connect(&cluster, &authority, it, true)).collect();
+    let mut follower = TlsClient::connect(&cluster, &authority, 0, true);
+    writeln!(follower.to, "follow 0").unwrap();
+    let submit = |clients: &mut [TlsClient], number: u32| {
+        for client in clients {
+            let answer = client.ask(&format!("submit 7.{number}.{}", number * 3)).unwrap();
+            assert_taken(&answer);
+        }
+    };
+    let mut list = Vec::new();
+    for session in 1..=2 {
+        submit(&mut clients, 2 * session - 1);
+        list.extend(follower.until(texts(2 * session - 1..=2 * session - 1)));
+        cluster.close_all(session - 1);
+        (0..REPLICAS).for_each(|it| cluster.wait_for_session(it, session));
+        // The same connections go on, and so does the list of the follower.
+        submit(&mut clients, 2 * session);
+        list.extend(follower.until(texts(2 * session..=2 * session)));
+    }
+    // A replica that starts in a later session shows its peers the certificate of the first.
+    cluster.kill(3);
+    cluster.start(3);
+    (0..REPLICAS).for_each(|it| cluster.wait_for(it, "\"heard\":5"));
+    clients[3] = TlsClient::connect(&cluster, &authority, 3, true);
+    submit(&mut clients, 5);
+    list.extend(follower.until(texts(5..=5)));
+    for replica in 0..REPLICAS {
+        let mut other = TlsClient::connect(&cluster, &authority, replica, true);
+        writeln!(other.to, "follow 0").unwrap();
+        let found = other.until(texts(1..=5));
+        let shorter = found.len().min(list.len());
+        assert_eq!(found[..shorter], list[..shorter]);
+    }
+    // Who shows no certificate is no client, and nobody may submit for another.
+    let mut stranger = TlsClient::connect(&cluster, &authority, 0, false);
+    assert_eq!(stranger.ask("submit 7.6.18"), None);
+    let answer = clients[0].ask("submit 8.1.3");
+    assert_eq!(answer.as_deref(), Some("bad not your transaction: 8.1.3, you are 7"));
+    fs::remove_dir_all(authority).unwrap();
 }

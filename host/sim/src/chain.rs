@@ -8,8 +8,8 @@ use themis_engine::core::Event;
 use themis_engine::tx::Tx;
 use themis_engine::wire::{self, Kind};
 
-use crate::parts::block_end;
 use crate::tapped::Journal;
+use themis_deeds::parts::block_end;
 
 const DIGEST: usize = 32;
 

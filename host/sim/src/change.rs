@@ -4,14 +4,15 @@ use std::time::Duration;
 
 use rand::Rng;
 use themis::{Error, Replica};
-use themis_engine::sessions::requests::{Mark, OpenLog, Recover, Store};
+use themis_engine::sessions::doubles::Search;
+use themis_engine::sessions::requests::{Mark, OpenLog, Recover, SitOut, Store};
 use themis_engine::sessions::{Input, Read};
 
 use crate::driver::Driver;
 use crate::keys::own_key;
 use crate::node::{Node, Violation};
 use crate::queue::Happening;
-use crate::tapped::Tapped;
+use crate::tapped::Played;
 use crate::world::World;
 
 /// Something that an engine asked for.
@@ -24,10 +25,14 @@ pub enum Request {
     Mark(Mark),
     /// Opens a log that was marked.
     Recover(Recover),
+    /// Stores what is sat out.
+    SitOut(SitOut),
     /// Makes a key.
     GrowKey(u32),
     /// Reads for a peer.
     Read(Read),
+    /// Searches for transactions.
+    Search(Search),
 }
 
 /// The steps of a change of session.
@@ -50,16 +55,18 @@ impl Request {
             Request::OpenLog(_) => Some(Step::Open),
             Request::Mark(_) => Some(Step::Mark),
             Request::Recover(_) => Some(Step::Recover),
-            Request::GrowKey(_) | Request::Read(_) => None,
+            Request::SitOut(_) | Request::GrowKey(_) | Request::Read(_) | Request::Search(_) => {
+                None
+            }
         }
     }
 
     /// The longest time that it takes, in milliseconds.
     fn longest(&self) -> u32 {
         match self {
-            Request::Store(_) | Request::OpenLog(_) | Request::Mark(_) => 8,
+            Request::Store(_) | Request::OpenLog(_) | Request::Mark(_) | Request::SitOut(_) => 8,
             Request::Recover(_) | Request::GrowKey(_) => 40,
-            Request::Read(_) => 2,
+            Request::Read(_) | Request::Search(_) => 2,
         }
     }
 }
@@ -79,9 +86,9 @@ impl World {
     /// The operator of a replica asks it to end its session.
     pub(crate) fn end_session(&mut self, replica: u32) -> Result<(), Violation> {
         let node = &mut self.nodes[replica as usize];
-        let local = node.clock.local(self.now);
         if let Some(Driver::Many(it)) = node.process.as_mut().map(|it| &mut it.driver) {
-            it.take(Input::EndSession, local)?;
+            // While the sessions change there may be none that could end: the operator asks again.
+            let _ = it.end(None);
         }
         self.drive(replica)
     }
@@ -117,12 +124,15 @@ impl World {
 
 impl Node {
     /// Does what was asked, durably.
-    fn perform(&mut self, request: Request) -> Result<Option<Input<Tapped>>, Violation> {
+    fn perform(&mut self, request: Request) -> Result<Option<Input<Played>>, Violation> {
         let me = self.place.me;
         Ok(match request {
             Request::GrowKey(session) => Some(Input::Key { session, key: own_key(me, session) }),
             Request::Read(read) => {
                 self.store.as_ref().and_then(|it| it.read(read)).map(Input::Found)
+            }
+            Request::Search(it) => {
+                self.store.as_ref().map(|store| Input::Searched(store.search(it)))
             }
             Request::Store(it) => {
                 if let Some(store) = &mut self.store {
@@ -138,11 +148,17 @@ impl Node {
                 Some(Input::Marked(it.marked()))
             }
             Request::Recover(it) => Some(self.recover(it)?),
+            Request::SitOut(it) => {
+                if let Some(store) = &mut self.store {
+                    store.sit_out(&it);
+                }
+                Some(Input::SatOut(it.stored()))
+            }
         })
     }
 
     /// Makes a log. What is there of it has no record.
-    fn open_log(&mut self, it: OpenLog) -> Result<Input<Tapped>, Violation> {
+    fn open_log(&mut self, it: OpenLog) -> Result<Input<Played>, Violation> {
         let session = it.session();
         if self.journals.get(&session).is_some_and(|it| !it.borrow().entries.is_empty()) {
             return Err(Violation(format!("the log of session {session} is made again")));
@@ -162,7 +178,7 @@ impl Node {
         Ok(Input::Opened(it.opened(core)))
     }
 
-    fn recover(&mut self, it: Recover) -> Result<Input<Tapped>, Violation> {
+    fn recover(&mut self, it: Recover) -> Result<Input<Played>, Violation> {
         let session = it.session();
         if !self.disk.logs.contains_key(&session) {
             return Ok(Input::Recovered(it.lost()));

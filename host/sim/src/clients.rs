@@ -53,7 +53,11 @@ impl World {
             return self.refused(replica, number);
         }
         self.answered[replica as usize][number] = true;
-        match node.unsafe_one(&self.plan.submissions[number].txs) {
+        let submission = &self.plan.submissions[number];
+        if submission.is_double() && self.plan.is_honest(replica) {
+            self.doubles.extend(&submission.txs);
+        }
+        match node.unsafe_one(&submission.txs) {
             Some(tx) if self.plan.is_honest(replica) => {
                 Err(Violation(format!("replica {replica} answers ok, and {tx:?} is not durable")))
             }
@@ -65,11 +69,35 @@ impl World {
     fn refused(&mut self, replica: u32, number: usize) -> Result<(), Violation> {
         let node = &self.nodes[replica as usize];
         let txs = &self.plan.submissions[number].txs;
+        if self.plan.submissions[number].is_double() {
+            self.answered[replica as usize][number] = true; // its numbers are final with others
+            return Ok(());
+        }
         let is_known = |it: &&Tx| node.finals.contains(it);
         if self.plan.is_honest(replica) && !txs.iter().any(|it| is_known(&it)) {
             return Err(Violation(format!("replica {replica} refuses {txs:?}, and none is final")));
         }
         self.answered[replica as usize][number] = txs.iter().all(|it| is_known(&it));
         Ok(())
+    }
+}
+
+#[cfg(test)]
+mod tests {
+    use std::collections::HashMap;
+
+    use crate::plan::{Edits, Plan, MAX_OF_CLIENT};
+
+    /// A replica refuses a submission that is above the quota of its client, however often it comes.
+    #[test]
+    fn no_client_of_a_burst_submits_more_than_a_replica_takes() {
+        let all = Plan::new(2, &Edits { burst: 2500, ..Edits::default() });
+        let none = Plan::new(2, &Edits::default());
+        assert_eq!(all.count(), none.count() + 2500);
+        let mut of_client: HashMap<u32, u32> = HashMap::new();
+        for tx in all.submissions.iter().flat_map(|it| &it.txs) {
+            *of_client.entry(tx.client).or_default() += 1;
+        }
+        assert!(of_client.values().all(|count| *count <= MAX_OF_CLIENT));
     }
 }

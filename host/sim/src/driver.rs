@@ -7,14 +7,14 @@ use themis_engine::sessions::frames::SessionFrame;
 use themis_engine::sessions::{self, Group, Sessions};
 use themis_engine::{Engine, Input, Output, Pending, Sizes, Status, Ticket, Time};
 
-use crate::tapped::Tapped;
+use crate::tapped::Played;
 
 /// The engine of a process.
 pub enum Driver {
     /// One session.
-    One(Box<Engine<Tapped>>),
+    One(Box<Engine<Played>>),
     /// Sessions that follow one another.
-    Many(Box<Sessions<Tapped>>),
+    Many(Box<Sessions<Played>>),
 }
 
 /// Events whose records are to be durable.
@@ -51,7 +51,11 @@ pub fn inner_frame(frame: &Bytes, is_many: bool) -> Option<Frame> {
     }
     match SessionFrame::decode(frame[4], &payload).ok()? {
         SessionFrame::In { frame, .. } => Some(frame),
-        SessionFrame::Ask(_) | SessionFrame::Part(_) => None,
+        SessionFrame::Ask(_)
+        | SessionFrame::Part(_)
+        | SessionFrame::AskSession(_)
+        | SessionFrame::Session { .. }
+        | SessionFrame::Out(_) => None,
     }
 }
 
@@ -136,7 +140,7 @@ impl Driver {
     }
 
     /// The engine of the session that runs.
-    pub fn engine(&mut self) -> Option<&mut Engine<Tapped>> {
+    pub fn engine(&mut self) -> Option<&mut Engine<Played>> {
         match self {
             Driver::One(it) => Some(it),
             Driver::Many(it) => it.running(),

@@ -21,13 +21,12 @@ impl World {
             FaultKind::Tear(_) | FaultKind::CrashAfterWrite => node.armed = Some(kind),
             FaultKind::CrashAt(step, is_after) => node.armed_step = Some((step, is_after)),
             FaultKind::LoseLog => {
-                if let Some(session) = node.store.as_ref().and_then(|it| it.marked) {
-                    if let Some(log) = node.disk.logs.remove(&session) {
-                        node.graves.insert(session, log);
-                        node.lost.push(session);
-                    }
-                }
                 self.crash(replica, until);
+                self.nodes[replica as usize].lose_log();
+            }
+            FaultKind::LoseStore => {
+                self.crash(replica, until);
+                self.nodes[replica as usize].lose_store();
             }
             FaultKind::Full => node.disk.is_full = true,
             FaultKind::Slow(ms) => node.disk.sync = Duration::from_millis(u64::from(ms)),
@@ -61,6 +60,7 @@ impl World {
             FaultKind::Crash
             | FaultKind::CrashAt(..)
             | FaultKind::LoseLog
+            | FaultKind::LoseStore
             | FaultKind::Rot(_)
             | FaultKind::Cut(_)
             | FaultKind::OneWay(_)

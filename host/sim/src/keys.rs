@@ -5,7 +5,7 @@ use std::sync::{Mutex, PoisonError};
 
 use sha2::{Digest, Sha256};
 use themis::{public_key, Height};
-use themis_engine::sessions::keys::{PublicKey, PublicKeys};
+use themis_engine::sessions::keys::PublicKey;
 use themis_engine::sessions::secret::secret_of;
 
 /// Two trees of five levels: the cheapest key with enough views.
@@ -38,9 +38,4 @@ pub fn own_key(replica: u32, session: u32) -> PublicKey {
 /// The public keys of the first n replicas for the first session.
 pub fn public_keys(n: u32) -> Vec<PublicKey> {
     (0..n).map(|it| own_key(it, 0)).collect()
-}
-
-/// The keys as the library takes them: zeros where a replica sits the session out.
-pub fn for_library(keys: &PublicKeys) -> Vec<PublicKey> {
-    keys.iter().map(|it| it.unwrap_or([0; 60])).collect()
 }

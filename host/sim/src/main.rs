@@ -11,24 +11,21 @@ mod chain;
 mod change;
 mod clients;
 mod clock;
-mod deeds;
 mod disk;
 mod driver;
 mod faults;
+mod figures;
 mod keys;
 mod many;
 mod network;
 mod node;
 mod opened;
-mod parts;
 mod plan;
 mod process;
 mod queue;
 mod receipts;
 mod run;
-mod second_head;
 mod shrink;
-mod signer;
 mod store;
 mod sys;
 mod tapped;
@@ -40,9 +37,10 @@ use std::ops::Range;
 use std::process::ExitCode;
 use std::time::{Duration, Instant};
 
-use clap::{Parser, ValueEnum};
+use clap::Parser;
+use themis_deeds::Deed;
 
-use crate::plan::{Deed, Edits, Plan};
+use crate::plan::{Edits, Plan};
 use crate::run::{Mode, Report};
 use crate::shrink::shrink;
 
@@ -87,7 +85,7 @@ struct Arguments {
     #[arg(long)]
     txs: Option<usize>,
     /// The faulty replica does this, and not what the seed draws.
-    #[arg(long, value_enum, value_delimiter = ',')]
+    #[arg(long, value_delimiter = ',')]
     deeds: Vec<Deed>,
     /// Submits that many more transactions at the start.
     #[arg(long, default_value_t = 0)]
@@ -101,6 +99,19 @@ struct Arguments {
     /// Each run is one of those with more faults and transactions.
     #[arg(long)]
     long: bool,
+    /// To check a seal takes a replica that many microseconds of virtual time.
+    #[arg(long, default_value_t = 0)]
+    seal_us: u32,
+    /// Runs no seeds. Prints latency and throughput with these delays between any two replicas, in
+    /// milliseconds, where nothing is faulty.
+    #[arg(long, value_delimiter = ',')]
+    delays: Vec<f64>,
+    /// With --delays: transactions a second.
+    #[arg(long, value_delimiter = ',', default_values_t = [1, 100, 1000, 4000])]
+    rates: Vec<u32>,
+    /// Over sessions: a replica loses its store, which is made again.
+    #[arg(long)]
+    lose_store: bool,
 }
 
 /// What all runs came to.
@@ -124,6 +135,9 @@ struct Total {
 
 fn main() -> ExitCode {
     let given = Arguments::parse();
+    if !given.delays.is_empty() {
+        return print_figures(&given);
+    }
     let Some((first, end)) = range_of(&given.seeds) else {
         eprintln!("themis-sim: no seeds: {}", given.seeds);
         return ExitCode::from(2);
@@ -145,6 +159,22 @@ fn main() -> ExitCode {
     } else {
         ExitCode::from(9)
     }
+}
+
+fn print_figures(given: &Arguments) -> ExitCode {
+    let seal_cost = Duration::from_micros(u64::from(given.seal_us));
+    for delay in given.delays.iter().map(|it| Duration::from_secs_f64(it / 1000.0)) {
+        for rate in &given.rates {
+            match figures::measure(&figures::Asked { delay, rate: *rate, seal_cost }) {
+                Ok(figures) => println!("{figures}"),
+                Err(fault) => {
+                    eprintln!("themis-sim: {}", fault.0);
+                    return ExitCode::from(9);
+                }
+            }
+        }
+    }
+    ExitCode::SUCCESS
 }
 
 fn print_smaller(seed: u64, edits: Edits) {
@@ -190,6 +220,8 @@ impl Arguments {
             spread: self.spread,
             sessions: self.sessions,
             long: self.long,
+            seal_cost: self.seal_us,
+            lose_store: self.lose_store,
         }
     }
 
@@ -217,8 +249,7 @@ fn line_of(seed: u64, edits: &Edits) -> String {
         out += &format!(" --drop-deeds {}", list(&edits.drop_deeds));
     }
     if !edits.deeds.is_empty() {
-        let names = edits.deeds.iter().filter_map(ValueEnum::to_possible_value);
-        let names: Vec<_> = names.map(|it| it.get_name().to_owned()).collect();
+        let names: Vec<_> = edits.deeds.iter().map(Deed::to_string).collect();
         out += &format!(" --deeds {}", names.join(","));
     }
     if edits.burst > 0 {
@@ -232,6 +263,12 @@ fn line_of(seed: u64, edits: &Edits) -> String {
     }
     if edits.long {
         out += " --long";
+    }
+    if edits.seal_cost > 0 {
+        out += &format!(" --seal-us {}", edits.seal_cost);
+    }
+    if edits.lose_store {
+        out += " --lose-store";
     }
     if let Some(txs) = edits.txs {
         out += &format!(" --txs {txs}");

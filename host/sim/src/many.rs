@@ -4,14 +4,17 @@ use std::collections::{HashMap, HashSet};
 use std::time::Duration;
 
 use themis::{audit, Finding, Run};
-use themis_engine::core::Event;
+use themis_engine::core::{Core, Event};
 use themis_engine::sessions::reserved::marker;
 use themis_engine::tx::Tx;
 use themis_engine::Time;
 
+use crate::chain::committed;
 use crate::driver::Driver;
 use crate::keys::HEIGHT;
 use crate::node::{Node, Violation};
+use crate::receipts::{is_promised, proposals, Proposed};
+use crate::store::Durable;
 use crate::tapped::Journal;
 use crate::trace::{trace_of, Account};
 use crate::world::World;
@@ -22,6 +25,8 @@ pub const END_EVERY: Duration = Duration::from_millis(1500);
 const SETTLE: Duration = Duration::from_secs(3);
 const IDLE: Duration = Duration::from_secs(3);
 const MAX_IDLE_VIEWS: u32 = 8;
+/// A session of any height has fewer.
+const MAX_VIEWS: u32 = 10_000;
 
 fn honest(world: &World) -> impl Iterator<Item = &Node> {
     world.plan.honest().map(|it| &world.nodes[it as usize])
@@ -29,7 +34,7 @@ fn honest(world: &World) -> impl Iterator<Item = &Node> {
 
 /// Whether all honest replicas run the same session, which is not one of the first.
 pub fn is_level(world: &World) -> bool {
-    let session = |it: &Node| it.store.as_ref().map_or(0, |it| it.session());
+    let session = |it: &Node| it.store.as_ref().map_or(0, Durable::session);
     let last = honest(world).map(session).max().unwrap_or(0);
     last + 1 >= world.plan.sessions
         && honest(world).all(|it| session(it) == last && status_of(it, world.now).is_some())
@@ -43,6 +48,7 @@ fn status_of(node: &Node, now: Time) -> Option<themis_engine::Status> {
 /// entries it read.
 pub fn check(world: &mut World, is_audited: bool) -> Result<usize, Violation> {
     check_idle(world)?;
+    check_answers(world)?;
     check_ends(world)?;
     check_retired(world)?;
     for node in honest(world) {
@@ -50,7 +56,8 @@ pub fn check(world: &mut World, is_audited: bool) -> Result<usize, Violation> {
     }
     let mut entries = 0;
     if is_audited {
-        let last = honest(world).filter_map(|it| it.store.as_ref()).map(|it| it.session()).max();
+        check_jumps(world)?;
+        let last = honest(world).filter_map(|it| it.store.as_ref()).map(Durable::session).max();
         for session in 0..=last.unwrap_or(0) {
             entries += check_audit(world, session)?;
         }
@@ -76,16 +83,29 @@ fn check_idle(world: &mut World) -> Result<(), Violation> {
     }
 }
 
+/// All is final, and replicas had time to say so: no client waits for an answer.
+fn check_answers(world: &World) -> Result<(), Violation> {
+    if honest(world).count() < world.plan.n as usize {
+        return Ok(());
+    }
+    match honest(world).find_map(|it| Some((it.place.me, it.tickets.values().min()?))) {
+        Some((me, number)) => {
+            Err(Violation(format!("replica {me} does not answer submission {number}")))
+        }
+        None => Ok(()),
+    }
+}
+
 /// The last session, and the views of it and of those that are helped.
 fn used(world: &mut World) -> (u32, u32) {
     let (mut session, mut views) = (0, 0);
     for node in &mut world.nodes {
-        session = session.max(node.store.as_ref().map_or(0, |it| it.session()));
+        session = session.max(node.store.as_ref().map_or(0, Durable::session));
         let Some(Driver::Many(it)) = node.process.as_mut().map(|it| &mut it.driver) else {
             continue;
         };
-        let view = |it: &mut themis_engine::Engine<crate::tapped::Tapped>| {
-            it.core_mut().ends().map_or(0, |(view, _)| view)
+        let view = |it: &mut themis_engine::Engine<crate::tapped::Played>| {
+            it.core_mut().views().map_or(0, |(view, _)| view)
         };
         let running = it.running().map_or(0, view);
         let helping = it.helping().map_or(0, view);
@@ -194,11 +214,57 @@ fn check_arrivals(node: &Node) -> Result<(), Violation> {
     Ok(())
 }
 
+/// No transaction passes another that every honest replica received before it, and had heard of from
+/// all honest ones, over all sessions. What is received again after a change is left out, as after a
+/// start: then its order is not known.
+fn check_jumps(world: &mut World) -> Result<(), Violation> {
+    let longest = honest(world).max_by_key(|it| it.batches.len());
+    let Some(batches) = longest.map(|it| it.batches.clone()) else { return Ok(()) };
+    let last = honest(world).filter_map(|it| it.store.as_ref()).map(Durable::session).max();
+    let mut known = HashMap::new();
+    for session in 0..=last.unwrap_or(0) {
+        known.extend(proposed_in(world, session, &batches)?);
+    }
+    let jumps = world.receipts.jumps(&batches, |a, b| is_promised(&known, a, b));
+    match jumps.first() {
+        Some((a, b)) => {
+            Err(Violation(format!("{} pairs jump over sessions: {b:?} over {a:?}", jumps.len())))
+        }
+        None => Ok(()),
+    }
+}
+
+/// Where the final transactions of one session were proposed, as far as counting tells.
+fn proposed_in(
+    world: &mut World,
+    session: u32,
+    batches: &[Vec<Tx>],
+) -> Result<HashMap<Tx, Proposed>, Violation> {
+    let ended = honest(world).find_map(|it| {
+        let ended = it.store.as_ref()?.ended.get(session as usize)?;
+        Some((ended.first, ended.end()))
+    });
+    let first = honest(world).filter_map(|it| Some(it.store.as_ref()?.ended.last()?.end())).max();
+    let (start, end) = ended.unwrap_or((first.unwrap_or(0), batches.len()));
+    let finals: HashSet<Tx> = batches[start..end].iter().flatten().copied().collect();
+    let entries = |it: &&Node| it.journals.get(&session).map_or(0, |it| it.borrow().entries.len());
+    let Some(node) = honest(world).max_by_key(entries).filter(|it| entries(it) > 0) else {
+        return Ok(HashMap::new());
+    };
+    let journal = node.journals[&session].borrow();
+    let (mut core, _) = node.opened(session, &node.any_log(session)[..journal.acted])?;
+    let (_, commit) = core.views()?;
+    let found = proposals((world.plan.n, world.plan.f), &committed(&journal, commit), &finals);
+    // A view of another session is another one.
+    let of_session = |it: Proposed| Proposed { view: session * MAX_VIEWS + it.view, ..it };
+    Ok(found.into_iter().map(|(tx, it)| (tx, of_session(it))).collect())
+}
+
 /// The proved audit of one session.
 fn check_audit(world: &mut World, session: u32) -> Result<usize, Violation> {
     let (n, f, views) = (world.plan.n, world.plan.f, world.plan.views);
     let Some(first) = world.plan.honest().next() else { return Ok(0) };
-    let mut found: HashMap<u32, ((u32, u32), Vec<Vec<Tx>>)> = HashMap::new();
+    let mut found = HashMap::new();
     for replica in world.plan.honest() {
         let node = &mut world.nodes[replica as usize];
         let acted = node.journal(session).borrow().acted;
@@ -240,7 +306,7 @@ mod tests {
 
     use super::*;
     use crate::clock::Clock;
-    use crate::plan::{Edits, Plan};
+    use crate::plan::{Edits, Fault, FaultKind, Plan};
     use crate::run::{run, Mode};
     use crate::tapped::Entry;
 
@@ -285,6 +351,21 @@ mod tests {
         assert!(!is_lawful(&[tx(2), tx(3), tx(4), tx(4)], &both)); // twice
         assert!(!is_lawful(&[tx(2), tx(3), marker(2)], &both)); // another marker
         assert!(!is_lawful(&[tx(2), tx(3)], &[tx(2)])); // something else is stored
+    }
+
+    /// Replica 1 is alone over the end of a session. Meanwhile numbers are used for other transactions
+    /// there than at the others.
+    #[test]
+    fn both_transactions_of_a_number_become_final() {
+        let mut plan = Plan::new(9, &Edits { sessions: 3, ..Edits::default() });
+        let (at, replica, kind) = (300, 1, FaultKind::Alone);
+        plan.faults = vec![Fault { at, span: 1200, replica, kind }];
+        plan.latency = Duration::from_millis(1);
+        plan.ends = vec![900];
+        (plan.deeds, plan.submissions) = (Vec::new(), Vec::new());
+        plan.use_numbers_twice();
+        let report = run(&plan, Mode::default());
+        assert_eq!((report.violation, report.doubles), (None, 6));
     }
 
     #[test]

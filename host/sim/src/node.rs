@@ -7,8 +7,9 @@ use std::time::Duration;
 
 use bytes::Bytes;
 use themis::{Error, Replica, Role};
+use themis_deeds::{Actor, Deed, Deeds, Faulty, Owner};
 use themis_engine::core::{event_of, records, Core, Event, Turn};
-use themis_engine::sessions::keys::PublicKey;
+use themis_engine::sessions::keys::{for_library, PublicKey};
 use themis_engine::sessions::Sessions;
 use themis_engine::setting::{Options, PaceOptions, Place};
 use themis_engine::tx::Tx;
@@ -16,15 +17,13 @@ use themis_engine::{Engine, Restored, Time};
 
 use crate::change::{Request, Step};
 use crate::clock::Clock;
-use crate::deeds::{Deeds, OWN_CLIENT};
 use crate::disk::Disk;
 use crate::driver::{Driver, Prepared};
-use crate::keys::{for_library, public_keys, secret, HEIGHT};
+use crate::keys::{public_keys, secret, HEIGHT};
 use crate::opened;
-use crate::plan::{Deed, FaultKind, Plan};
-use crate::second_head::SecondHead;
+use crate::plan::{FaultKind, Plan};
 use crate::store::Durable;
-use crate::tapped::{Journal, Tapped, Twist};
+use crate::tapped::{Journal, Played, Tapped};
 
 /// Frames of a peer that may wait in the engine.
 pub const SLOTS: u32 = 64;
@@ -91,11 +90,13 @@ pub struct Node {
     pub graves: BTreeMap<u32, Vec<u8>>,
     /// Its final batches.
     pub batches: Vec<Vec<Tx>>,
+    /// When it had each of them.
+    pub batch_times: Vec<Time>,
     /// What is in them.
     pub finals: HashSet<Tx>,
     /// What has arrived by the durable records of the log.
     arrived: HashSet<Tx>,
-    /// What it does if it is faulty.
+    /// What it does if it is faulty, to what its engine sends.
     pub deeds: Option<Deeds>,
     /// What happens at its next write.
     pub armed: Option<FaultKind>,
@@ -109,8 +110,9 @@ pub struct Node {
     pub tickets: HashMap<u64, usize>,
     role: Role,
     free_views: u32,
-    twist: Twist,
-    has_two_heads: bool,
+    seal_cost: Duration,
+    /// What it does if it is faulty, by name.
+    named: Vec<Deed>,
 }
 
 impl Node {
@@ -120,6 +122,7 @@ impl Node {
         let role = role_of(plan, me);
         let deeds = if plan.is_honest(me) { &[][..] } else { &plan.deeds[..] };
         let made = |_| VecDeque::new();
+        let actor = Actor { me, n, views, last_number: 0 };
         let mut node = Node {
             place: Place { me, n, f, views },
             process: None,
@@ -135,9 +138,10 @@ impl Node {
             lost: Vec::new(),
             graves: BTreeMap::new(),
             batches: Vec::new(),
+            batch_times: Vec::new(),
             finals: HashSet::new(),
             arrived: HashSet::new(),
-            deeds: (!deeds.is_empty()).then(|| Deeds::new(deeds, me, n, views, &secret(me, 0))),
+            deeds: (!deeds.is_empty()).then(|| Deeds::new(deeds, &actor)),
             armed: None,
             rot: None,
             slots: vec![SLOTS; n as usize],
@@ -145,13 +149,8 @@ impl Node {
             tickets: HashMap::new(),
             role,
             free_views: plan.free_views,
-            twist: match deeds {
-                _ if deeds.contains(&Deed::FrontRun) => Twist::First(OWN_CLIENT),
-                _ if deeds.contains(&Deed::Reorder) => Twist::Reversed,
-                _ if deeds.contains(&Deed::EarlyMarker) => Twist::Marked,
-                _ => Twist::None,
-            },
-            has_two_heads: deeds.contains(&Deed::TwoHeads),
+            seal_cost: plan.seal_cost,
+            named: deeds.to_vec(),
         };
         if node.store.is_none() {
             let header = opened::header_of(&role)?;
@@ -159,6 +158,12 @@ impl Node {
             node.disk.logs.insert(0, header);
         }
         Ok(node)
+    }
+
+    /// The view of the session that it runs.
+    pub fn views(&mut self) -> u32 {
+        let engine = self.process.as_mut().and_then(|it| it.driver.engine());
+        engine.and_then(|it| it.core_mut().views().ok()).map_or(0, |(view, _)| view)
     }
 
     /// What it did in a session.
@@ -202,10 +207,14 @@ impl Node {
             self.check_rot(place)?;
         }
         let (place, local) = (self.place, self.clock.local(now));
-        let pace = PaceOptions { free: self.free_views, ..PaceOptions::default() };
-        let options = Options { log_receipts: true, pace, ..Options::default() };
+        let options = Options {
+            log_receipts: true,
+            pace: PaceOptions { free: self.free_views, ..PaceOptions::default() },
+            ..Options::default()
+        };
         let driver = if let Some(store) = &self.store {
-            let many = Sessions::open(place, options, store.restart(), local);
+            let restart = store.restart(u64::from(self.incarnation));
+            let many = Sessions::open(place, options, restart, local);
             Driver::Many(Box::new(many))
         } else {
             let (core, header) = self.recovered(0)?;
@@ -219,7 +228,7 @@ impl Node {
     }
 
     /// The core of a session as its log leaves it, and the size of the log's header.
-    pub fn recovered(&mut self, session: u32) -> Result<(Tapped, usize), Violation> {
+    pub fn recovered(&mut self, session: u32) -> Result<(Played, usize), Violation> {
         let (mut replica, used) = self.opened(session, self.log(session))?;
         let acted = self.acted(session);
         if used < acted {
@@ -236,15 +245,12 @@ impl Node {
     }
 
     /// A core of a session, and what it does.
-    pub fn tapped(&mut self, session: u32, replica: Replica) -> Result<Tapped, Violation> {
-        let tapped = Tapped::new(replica, self.journal(session), session);
-        let second = if self.has_two_heads {
-            let (other, _) = self.opened(session, self.log(session))?;
-            Some(SecondHead::new(self.place.me, other))
-        } else {
-            None
-        };
-        Ok(tapped.with_deeds(self.twist, second))
+    pub fn tapped(&mut self, session: u32, replica: Replica) -> Result<Played, Violation> {
+        let tapped = Tapped::new(self.place.me, replica, self.journal(session));
+        let me = self.place.me;
+        let owner = Owner { me, session, height: HEIGHT, secret: secret(me, session) };
+        let open = || Ok(self.opened(session, self.log(session))?.0);
+        Ok(Faulty::new(tapped, &self.named, &owner, open)?)
     }
 
     /// A flipped bit of what was acted on has to be refused.
@@ -267,7 +273,7 @@ impl Node {
         }
         let journal = self.journal(session);
         let (replica, _) = self.opened(session, &self.log(session)[..acted])?;
-        let mut core = Tapped::new(replica, journal, session);
+        let mut core = Tapped::new(self.place.me, replica, journal);
         for event in records(self.log(session), acted).filter_map(event_of) {
             core.prepare(&event)?;
             match Core::act(&mut core)? {
@@ -289,8 +295,28 @@ impl Node {
         self.blocked.iter_mut().for_each(VecDeque::clear);
     }
 
-    /// How long this write takes; none where the process ends in it.
+    /// The log of the session that runs is lost.
+    pub fn lose_log(&mut self) {
+        if let Some(session) = self.store.as_ref().and_then(|it| it.marked) {
+            if let Some(log) = self.disk.logs.remove(&session) {
+                self.graves.insert(session, log);
+                self.lost.push(session);
+            }
+        }
+    }
+
+    /// The store and all logs are lost, and the store is made again.
+    pub fn lose_store(&mut self) {
+        let Some(store) = &self.store else { return };
+        self.lost.extend(0..=store.session());
+        self.store = Some(store.made_again());
+        self.graves.append(&mut self.disk.logs);
+        self.arrived.clear();
+    }
+
+    /// How long this write takes, and what the core does for it; none where the process ends in it.
     pub fn write(&mut self, pending: Prepared) -> Option<Duration> {
+        let seals = std::mem::take(&mut self.journal(pending.session()).borrow_mut().work);
         let process = self.process.as_mut()?;
         let (session, records) = (pending.session(), pending.records());
         match self.armed.take() {
@@ -299,7 +325,7 @@ impl Node {
             _ if self.disk.is_full => {}
             _ => {
                 process.pending = Some(pending);
-                return Some(self.disk.sync);
+                return Some(self.disk.sync + self.seal_cost * seals);
             }
         }
         None
@@ -345,7 +371,12 @@ impl Node {
     }
 
     /// Takes a final batch, which an earlier process may have reported.
-    pub fn take_batch(&mut self, position: usize, txs: Vec<Tx>) -> Result<(), Violation> {
+    pub fn take_batch(
+        &mut self,
+        position: usize,
+        txs: Vec<Tx>,
+        now: Time,
+    ) -> Result<(), Violation> {
         let me = self.place.me;
         match self.batches.get(position) {
             Some(earlier) if *earlier == txs => Ok(()),
@@ -358,6 +389,7 @@ impl Node {
                     return Err(Violation(format!("replica {me} has {tx:?} twice")));
                 }
                 self.batches.push(txs);
+                self.batch_times.push(now);
                 Ok(())
             }
         }

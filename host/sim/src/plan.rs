@@ -1,11 +1,14 @@
 //! The plan of a run: all that a seed draws.
 
+mod faults;
+mod traffic;
+
 use std::time::Duration;
 
-use clap::ValueEnum;
 use rand::seq::SliceRandom;
 use rand::{Rng, SeedableRng};
 use rand_chacha::ChaCha8Rng;
+use themis_deeds::Deed;
 use themis_engine::tx::Tx;
 
 use crate::change::Step;
@@ -50,50 +53,11 @@ pub enum FaultKind {
     CrashAt(Step, bool),
     /// A crash; the log of the session that runs is lost.
     LoseLog,
+    /// A crash; the store and all logs are lost. The operator makes the store again.
+    LoseStore,
 }
 
-/// What a faulty replica does.
-#[derive(Clone, Copy, Debug, PartialEq, Eq, ValueEnum)]
-pub enum Deed {
-    /// Runs two cores with one key over different arrivals.
-    TwoHeads,
-    /// Changes a byte of the seal of each second message.
-    Forge,
-    /// Sends its proposals to every second replica only.
-    Half,
-    /// Sends no proposals.
-    Mute,
-    /// Receives transactions in the reverse order.
-    Reorder,
-    /// Sends random frames and messages, and claims to be in the last view.
-    Garbage,
-    /// Sends again what it received, with or without a flipped bit.
-    Stale,
-    /// Asks for the last view that it leads, with a good seal.
-    Leap,
-    /// Asks for each view that it leads, as if all had called for it.
-    Climb,
-    /// Gives valid blocks of one view without end.
-    Flood,
-    /// Tells its peers of its own client's transactions alone, with the smallest stamp, and puts them
-    /// first in its orders.
-    FrontRun,
-    /// Tells half of its peers of other transactions than the other half, with the smallest stamps, and
-    /// sends proposals that are none.
-    Split,
-    /// Sends votes without end for a block that nobody has.
-    Waste,
-    /// Lets the marker of a session arrive at its start, and tells so.
-    EarlyMarker,
-    /// Shows every second peer another key for the next session.
-    TwoKeys,
-    /// Tells those that are behind of another history.
-    FalseHistory,
-}
-
-/// What a faulty replica may do in one session.
-const DEEDS_OF_ONE: usize = 13;
-/// What it may do where sessions follow one another.
+/// What a faulty replica may do where sessions follow one another.
 const DEEDS_OF_MANY: [Deed; 9] = [
     Deed::EarlyMarker,
     Deed::TwoKeys,
@@ -106,11 +70,18 @@ const DEEDS_OF_MANY: [Deed; 9] = [
     Deed::Stale,
 ];
 
-const BURST_CLIENT: u32 = 99;
+/// In milliseconds. A replica that is away for longer may miss a change of session.
+const LONGEST_SHORT_FAULT: u32 = 500;
 /// Submits to a replica that is alone.
 const LONE_CLIENT: u32 = 98;
+/// Uses each number for two transactions, while a replica is alone: one for it, one for the others.
+const DOUBLE_CLIENT: u32 = 97;
 /// The clients of one replica each have numbers from here on.
 const OWN_CLIENTS: u32 = 100;
+/// The clients of a burst have numbers from here on.
+const BURST_CLIENTS: u32 = 200;
+/// A replica takes no more of one client at a time.
+pub const MAX_OF_CLIENT: u32 = 1000;
 
 /// Transactions that a client submits to all replicas, or to one.
 #[derive(Clone, Debug, PartialEq, Eq)]
@@ -121,6 +92,13 @@ pub struct Submission {
     pub txs: Vec<Tx>,
     /// The only replica that gets them; all where there is none.
     pub to: Option<u32>,
+}
+
+impl Submission {
+    /// Whether its numbers are used for other transactions as well. Then replicas may refuse it.
+    pub fn is_double(&self) -> bool {
+        self.txs.iter().any(|it| it.client == DOUBLE_CLIENT)
+    }
 }
 
 /// All that a run depends on.
@@ -154,6 +132,10 @@ pub struct Plan {
     pub free_views: u32,
     /// It is one of the few runs with more faults and transactions.
     pub is_long: bool,
+    /// All links have the same latency, which does not vary, and clients are next to the replicas.
+    pub is_even: bool,
+    /// What it costs a replica to check a seal: virtual time in which it does nothing else.
+    pub seal_cost: Duration,
 }
 
 /// What is left of the plan of a seed, to make a failure smaller.
@@ -175,6 +157,10 @@ pub struct Edits {
     pub sessions: u32,
     /// One of the runs with more faults and transactions.
     pub long: bool,
+    /// What it costs a replica to check a seal, in microseconds.
+    pub seal_cost: u32,
+    /// A replica loses its store, and none is away otherwise or faulty.
+    pub lose_store: bool,
 }
 
 impl Plan {
@@ -201,6 +187,8 @@ impl Plan {
             ends: Vec::new(),
             free_views: *[2, 4, 12].choose(&mut rng).unwrap_or(&12),
             is_long,
+            is_even: false,
+            seal_cost: Duration::from_micros(u64::from(edits.seal_cost)),
         };
         if plan.is_many() {
             // A quarter of the views has to be enough to make a marker final.
@@ -209,6 +197,7 @@ impl Plan {
             plan.draw_deeds_of_many(&mut rng);
             plan.draw_faults(&mut rng);
             plan.draw_faults_of_many(&mut rng);
+            plan.draw_lost_store(edits.lose_store);
             plan.draw_ends(&mut rng);
             plan.draw_traffic(&mut rng);
         } else {
@@ -240,155 +229,9 @@ impl Plan {
         self.faults.is_empty() && self.deeds.is_empty()
     }
 
-    fn draw_deeds(&mut self, rng: &mut ChaCha8Rng) {
-        if rng.gen_ratio(2, 5) {
-            let count = rng.gen_range(1..3);
-            let all = &Deed::value_variants()[..DEEDS_OF_ONE];
-            self.deeds = all.choose_multiple(rng, count).copied().collect();
-        }
-    }
-
-    fn draw_deeds_of_many(&mut self, rng: &mut ChaCha8Rng) {
-        if rng.gen_ratio(1, 2) {
-            let count = rng.gen_range(1..3);
-            self.deeds = DEEDS_OF_MANY.choose_multiple(rng, count).copied().collect();
-        }
-    }
-
-    /// Crashes between the steps of changes, replicas that are away over some, and lost logs. With a
-    /// faulty replica as well, more than f could miss the keys of a session.
-    fn draw_faults_of_many(&mut self, rng: &mut ChaCha8Rng) {
-        let steps = [Step::Store, Step::Open, Step::Mark, Step::Recover];
-        for _ in 0..rng.gen_range(0..6) {
-            let step = *steps.choose(rng).unwrap_or(&Step::Store);
-            let kind = FaultKind::CrashAt(step, rng.gen());
-            let (at, replica) = (rng.gen_range(0..self.span), rng.gen_range(0..self.n));
-            self.faults.push(Fault { at, span: 20, replica, kind });
-        }
-        let is_away = rng.gen_ratio(1, 2);
-        if is_away && self.deeds.is_empty() {
-            let kinds = [FaultKind::Crash, FaultKind::Alone, FaultKind::LoseLog];
-            let kind = *kinds.choose(rng).unwrap_or(&FaultKind::Crash);
-            let (at, span) = (rng.gen_range(0..self.span / 2), rng.gen_range(500..4000));
-            self.faults.push(Fault { at, span, replica: rng.gen_range(0..self.n), kind });
-        }
-        self.faults.sort_by_key(|it| it.at);
-    }
-
-    fn draw_ends(&mut self, rng: &mut ChaCha8Rng) {
-        let mut at = 0;
-        while at < self.span {
-            at += rng.gen_range(400..1200);
-            self.ends.push(at);
-        }
-        // A replica is alone over an end. What a client submits to it meanwhile is carried over.
-        if rng.gen_ratio(2, 3) {
-            let end = *self.ends.choose(rng).unwrap_or(&at);
-            let (replica, span) = (rng.gen_range(0..self.n), rng.gen_range(400..900));
-            let (at, kind) = (end.saturating_sub(100), FaultKind::Alone);
-            self.faults.push(Fault { at, span, replica, kind });
-            self.faults.sort_by_key(|it| it.at);
-        }
-    }
-
-    /// Clients that go on for the whole span, each with ascending numbers.
-    fn draw_traffic(&mut self, rng: &mut ChaCha8Rng) {
-        let mut numbers = [0u32; 4];
-        let mut at = 0;
-        while at < self.span {
-            at += rng.gen_range(40..200);
-            let client = rng.gen_range(0..numbers.len());
-            let to = rng.gen_ratio(1, 12).then(|| rng.gen_range(0..self.n));
-            // Bursts come right before an end, so that many wait when the session is cut.
-            let is_before_end = self.ends.iter().any(|it| (at..at + 200).contains(it));
-            let is_burst = to.is_none() && is_before_end && rng.gen_ratio(1, 4);
-            let count = if is_burst { rng.gen_range(100..300) } else { rng.gen_range(1..6) };
-            let txs = (0..count).map(|_| {
-                numbers[client] += 1;
-                Tx { client: client as u32 + 1, number: numbers[client], payload: self.seed }
-            });
-            let txs = txs.collect();
-            self.submissions.push(Submission { at, txs, to });
-        }
-        self.draw_lonely(rng);
-        self.submissions.sort_by_key(|it| it.at);
-        // What a replica alone has is lost with its log.
-        let loses = |it: &Fault| it.kind == FaultKind::LoseLog;
-        let losing: Vec<u32> =
-            self.faults.iter().filter(|it| loses(it)).map(|it| it.replica).collect();
-        for it in &mut self.submissions {
-            it.to = it.to.filter(|to| !losing.contains(to));
-        }
-    }
-
-    fn draw_faults(&mut self, rng: &mut ChaCha8Rng) {
-        for _ in 0..rng.gen_range(0..if self.is_long { 6 } else { 4 }) {
-            let replica = rng.gen_range(0..self.n);
-            let peer = (replica + rng.gen_range(1..self.n)) % self.n;
-            let kind = match rng.gen_range(0..12) {
-                0 | 1 => FaultKind::Crash,
-                2 => FaultKind::Tear(rng.gen()),
-                3 => FaultKind::CrashAfterWrite,
-                4 => FaultKind::Rot(rng.gen()),
-                5 => FaultKind::Full,
-                6 => FaultKind::Slow(rng.gen_range(10..300)),
-                7 => FaultKind::Cut(peer),
-                8 => FaultKind::OneWay(peer),
-                9 => FaultKind::Alone,
-                _ => FaultKind::Break(peer),
-            };
-            let lasts = self.is_long && rng.gen_ratio(1, 3);
-            let span = rng.gen_range(20..if lasts { 4000 } else { 500 });
-            self.faults.push(Fault { at: rng.gen_range(0..self.span), span, replica, kind });
-        }
-        self.faults.sort_by_key(|it| it.at);
-    }
-
-    fn draw_submissions(&mut self, rng: &mut ChaCha8Rng) {
-        let mut numbers = [0u32; 4];
-        let count = if self.is_long { rng.gen_range(3..8) } else { rng.gen_range(1..3) };
-        for number in 0..count {
-            let client = rng.gen_range(0..numbers.len());
-            // What one replica alone is given arrives slowly, so that is never much.
-            let is_for_one = number > 0 && rng.gen_ratio(1, 6);
-            let to = is_for_one.then(|| rng.gen_range(0..self.n));
-            let is_burst = to.is_none() && self.is_long && rng.gen_ratio(1, 5);
-            let count = if is_burst { rng.gen_range(50..400) } else { rng.gen_range(1..8) };
-            let txs = (0..count).map(|_| {
-                numbers[client] += 1;
-                Tx { client: client as u32, number: numbers[client], payload: self.seed }
-            });
-            let txs = txs.collect();
-            self.submissions.push(Submission { at: rng.gen_range(0..self.span), txs, to });
-        }
-        self.draw_lonely(rng);
-        if self.is_long && rng.gen_ratio(1, 5) {
-            self.spread(rng.gen_range(130..200));
-        }
-        self.submissions.sort_by_key(|it| it.at);
-    }
-
-    /// A client submits to a replica while it is alone.
-    fn draw_lonely(&mut self, rng: &mut ChaCha8Rng) {
-        let mut number = 0;
-        for it in self.faults.iter().filter(|it| it.kind == FaultKind::Alone) {
-            let txs = (0..rng.gen_range(1..4)).map(|_| {
-                number += 1;
-                Tx { client: LONE_CLIENT, number, payload: self.seed }
-            });
-            let (at, txs, to) = (it.at + it.span / 2, txs.collect(), Some(it.replica));
-            self.submissions.push(Submission { at, txs, to });
-        }
-    }
-
-    /// Each replica alone is given so many transactions at the start: more than a local order draws.
-    fn spread(&mut self, count: u32) {
-        for replica in 0..self.n {
-            let client = OWN_CLIENTS + replica;
-            let made = |number| Tx { client, number, payload: self.seed };
-            let txs = (0..count).map(made).collect();
-            self.submissions.push(Submission { at: 1, txs, to: Some(replica) });
-        }
+    /// How many transactions are submitted.
+    pub fn count(&self) -> usize {
+        self.submissions.iter().map(|it| it.txs.len()).sum()
     }
 
     fn edit(&mut self, edits: &Edits) {
@@ -396,9 +239,7 @@ impl Plan {
             self.deeds.clone_from(&edits.deeds);
         }
         if edits.burst > 0 {
-            let made = |number| Tx { client: BURST_CLIENT, number, payload: self.seed };
-            let txs = (0..edits.burst).map(made).collect();
-            self.submissions.insert(0, Submission { at: 1, txs, to: None });
+            self.burst(edits.burst);
         }
         if edits.spread > 0 {
             self.spread(edits.spread);

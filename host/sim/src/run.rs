@@ -7,6 +7,7 @@ use std::time::Duration;
 
 use serde::{Deserialize, Serialize};
 use themis::{audit, Finding, Run};
+use themis_engine::core::Core;
 use themis_engine::tx::Tx;
 use themis_engine::{Count, Time};
 
@@ -15,8 +16,9 @@ use crate::driver::Driver;
 use crate::keys::{public_keys, HEIGHT};
 use crate::many;
 use crate::node::{Node, Violation};
-use crate::plan::Plan;
+use crate::plan::{Plan, Submission};
 use crate::receipts::{is_promised, proposals};
+use crate::store::Durable;
 use crate::tapped::Journal;
 use crate::trace::{trace_of, Account};
 use crate::world::{at_ms, World};
@@ -25,7 +27,12 @@ use crate::world::{at_ms, World};
 const PATIENCE: Duration = Duration::from_secs(40);
 /// Where nothing is faulty. What makes a cluster slow is seen by it.
 const CALM_PATIENCE: Duration = Duration::from_secs(3);
-/// One wakes an idle cluster. More are a view that failed, although nothing is faulty: a message was lost.
+/// So many transactions are final with a view, at least.
+const IN_A_VIEW: u32 = 60;
+/// No view is shorter.
+const MIN_VIEW: Duration = Duration::from_millis(30);
+/// One wakes an idle cluster. More, but for those to a view that others have reached, are a timeout
+/// that is too short, or a message that was lost.
 const MAX_CALM_TICKS: u64 = 2;
 const TRACE_EVERY: Duration = Duration::from_millis(200);
 /// After all is final nothing more happens for so long.
@@ -64,7 +71,7 @@ pub struct Report {
     pub given: usize,
     /// Things that happened.
     pub happenings: u64,
-    /// Ticks of the replica that ticked most, since its last start.
+    /// Ticks of the replica that ticked most, since its last start, to views that it asked for first.
     pub ticks: u64,
     /// How long the run took in its own time.
     pub took: Duration,
@@ -72,6 +79,8 @@ pub struct Report {
     pub late: Duration,
     /// Transactions that were carried over, counted at each replica.
     pub carried: usize,
+    /// Transactions of numbers that were used twice, which honest replicas answered with ok.
+    pub doubles: usize,
     /// The longest time without a batch, while clients submitted.
     pub gap: Duration,
     /// Entries of journals that the proved audit read.
@@ -104,11 +113,11 @@ fn attempt(plan: &Plan, mode: Mode, report: &mut Report) -> Result<(), Violation
     report.happenings = world.queue.count();
     report.gap = world.gap.1;
     report.carried = honest(&world).map(carried).sum();
+    report.doubles = world.doubles.len();
     report.took = world.now.since(Time::default());
     report.late = world.now.since(quiet_at(&world.plan));
     report.finals = world.nodes[first].finals.len();
-    report.views =
-        plan.honest().map(|it| views_of(&mut world.nodes[it as usize])).max().unwrap_or(0);
+    report.views = plan.honest().map(|it| world.nodes[it as usize].views()).max().unwrap_or(0);
     let stores = || world.nodes.iter().filter_map(|it| it.store.as_ref());
     report.sessions = stores().map(|it| it.session() + 1).max().unwrap_or(1);
     report.taken = honest(&world).map(sessions_without_part).sum();
@@ -127,12 +136,13 @@ fn attempt(plan: &Plan, mode: Mode, report: &mut Report) -> Result<(), Violation
         check_bounds(node, plan)?;
     }
     if plan.is_many() {
+        report.common = world.receipts.common();
         return Ok(());
     }
     for node in honest(&world) {
         check_guards(node, &world)?;
     }
-    check_jumps(&mut world, report)?;
+    check_chain(&mut world, report)?;
     if mode.is_audited {
         report.audited = check_audit(&mut world)?;
     }
@@ -141,11 +151,6 @@ fn attempt(plan: &Plan, mode: Mode, report: &mut Report) -> Result<(), Violation
 
 fn honest(world: &World) -> impl Iterator<Item = &Node> {
     world.plan.honest().map(|it| &world.nodes[it as usize])
-}
-
-fn views_of(node: &mut Node) -> u32 {
-    let engine = node.process.as_mut().and_then(|it| it.driver.engine());
-    engine.and_then(|it| it.core_mut().ends().ok()).map_or(0, |(view, _)| view)
 }
 
 fn carried(node: &Node) -> usize {
@@ -165,13 +170,24 @@ fn ticks_of(node: &Node) -> u64 {
     let Some(process) = &node.process else { return 0 };
     let status = process.driver.status(process.wake);
     let counts = status.map_or_else(Vec::new, |it| it.counts);
-    counts.iter().find(|it| it.name == "ticks").map_or(0, |it| it.value)
+    let count = |name| counts.iter().find(|it| it.name == name).map_or(0, |it| it.value);
+    count("ticks") - count("joins")
 }
 
-/// Where nothing is faulty, no view fails.
+/// Where nothing is faulty, nobody gives up a view.
 fn check_ticks(plan: &Plan, ticks: u64) -> Result<(), Violation> {
     if plan.is_calm() && ticks > MAX_CALM_TICKS {
         return Err(Violation(format!("{ticks} ticks although nothing is faulty")));
+    }
+    Ok(())
+}
+
+/// Where nothing is faulty, no view fails: each up to the commit has a committed block.
+fn check_views(plan: &Plan, blocks: usize, commit: u32) -> Result<(), Violation> {
+    if plan.is_calm() && blocks < commit as usize {
+        let text =
+            format!("only {blocks} of {commit} views have a block although nothing is faulty");
+        return Err(Violation(text));
     }
     Ok(())
 }
@@ -182,6 +198,12 @@ fn quiet_at(plan: &Plan) -> Time {
     at_ms(faults.max().unwrap_or(0).max(plan.span))
 }
 
+/// How long the views take that all transactions need.
+fn time_of_all(plan: &Plan) -> Duration {
+    let view = MIN_VIEW + plan.latency * 3 + plan.sync * 2;
+    view * (plan.count() as u32 / IN_A_VIEW)
+}
+
 /// Lets things happen until all is final everywhere.
 fn play(world: &mut World, is_traced: bool) -> Result<(), Violation> {
     let mut traced_at = Time::default();
@@ -189,7 +211,7 @@ fn play(world: &mut World, is_traced: bool) -> Result<(), Violation> {
     let quiet = quiet_at(&world.plan);
     let is_many = world.plan.is_many();
     let is_quick = world.plan.is_calm() && !is_many;
-    let patience = if is_quick { CALM_PATIENCE } else { PATIENCE };
+    let patience = if is_quick { CALM_PATIENCE } else { PATIENCE } + time_of_all(&world.plan);
     let mut end_at = quiet + many::END_EVERY;
     while world.step()? {
         if is_traced && world.now > traced_at + TRACE_EVERY {
@@ -249,10 +271,17 @@ fn print_state(world: &World) {
     }
 }
 
-/// What has to be final: what an honest replica was given.
+/// What has to be final: what an honest replica was given. Of transactions whose numbers are used
+/// twice, those that it took.
 fn wanted(plan: &Plan) -> HashSet<Tx> {
-    let given = plan.submissions.iter().filter(|it| it.to.is_none_or(|to| plan.is_honest(to)));
+    let is_given = |it: &&Submission| it.to.is_none_or(|to| plan.is_honest(to));
+    let given = plan.submissions.iter().filter(is_given).filter(|it| !it.is_double());
     given.flat_map(|it| &it.txs).copied().collect()
+}
+
+/// What is not final at a replica and has to be.
+fn missing(world: &World, wanted: &HashSet<Tx>, node: &Node) -> usize {
+    wanted.union(&world.doubles).filter(|it| !node.finals.contains(it)).count()
 }
 
 /// Whether all honest replicas run, and have the same list with all that is wanted.
@@ -260,7 +289,7 @@ fn is_level(world: &World, wanted: &HashSet<Tx>) -> bool {
     let count = honest(world).map(|it| it.batches.len()).max().unwrap_or(0);
     (!world.plan.is_many() || many::is_level(world))
         && honest(world).all(|it| {
-            it.process.is_some() && it.batches.len() == count && wanted.is_subset(&it.finals)
+            it.process.is_some() && it.batches.len() == count && missing(world, wanted, it) == 0
         })
 }
 
@@ -268,13 +297,13 @@ fn stuck(world: &mut World, wanted: &HashSet<Tx>) -> Violation {
     let ids: Vec<u32> = world.plan.honest().collect();
     let mut text = String::from("not all is final:");
     for replica in ids {
+        let missing = missing(world, wanted, &world.nodes[replica as usize]);
         let node = &mut world.nodes[replica as usize];
-        let missing = wanted.difference(&node.finals).count();
-        let view = views_of(node);
+        let view = node.views();
         let is_up = node.process.is_some();
         text += &format!(
             " [{replica} up={is_up} session={} view={view} batches={} missing={missing}]",
-            node.store.as_ref().map_or(0, |it| it.session()),
+            node.store.as_ref().map_or(0, Durable::session),
             node.batches.len()
         );
     }
@@ -286,7 +315,7 @@ fn check_idle(world: &mut World) -> Result<(), Violation> {
     if world.plan.honest().count() < world.plan.n as usize {
         return Ok(());
     }
-    let views = |world: &mut World| world.nodes.iter_mut().map(views_of).max().unwrap_or(0);
+    let views = |world: &mut World| world.nodes.iter_mut().map(Node::views).max().unwrap_or(0);
     let (before, until) = (views(world), world.now + IDLE);
     while world.now < until && world.step()? {}
     let used = views(world) - before;
@@ -364,17 +393,19 @@ fn check_guards(node: &Node, world: &World) -> Result<(), Violation> {
     }
 }
 
-/// No transaction passes another that every honest replica received before it, and had heard of from
-/// all honest ones. Only one that was given way may.
-fn check_jumps(world: &mut World, report: &mut Report) -> Result<(), Violation> {
+/// The committed blocks: no view failed for nothing, and no transaction passes another that every
+/// honest replica received before it, and had heard of from all honest ones. Only one that was given
+/// way may.
+fn check_chain(world: &mut World, report: &mut Report) -> Result<(), Violation> {
     let longest = world.plan.honest().max_by_key(|it| world.nodes[*it as usize].batches.len());
     let Some(longest) = longest else { return Ok(()) };
     let node = &mut world.nodes[longest as usize];
     let journal = node.journal(0);
     let Some(process) = &mut node.process else { return Ok(()) };
     let Some(engine) = process.driver.engine() else { return Ok(()) };
-    let (_, commit) = engine.core_mut().ends()?;
+    let (_, commit) = engine.core_mut().views()?;
     let chain = committed(&journal.borrow(), commit);
+    check_views(&world.plan, chain.len(), commit)?;
     let known = proposals((world.plan.n, world.plan.f), &chain, &node.finals);
     let jumps = world.receipts.jumps(&node.batches, |a, b| is_promised(&known, a, b));
     (report.jumps, report.common) = (jumps.len(), world.receipts.common());
@@ -400,7 +431,7 @@ fn check_audit(world: &mut World) -> Result<usize, Violation> {
     for replica in 0..world.plan.n {
         let node = &mut world.nodes[replica as usize];
         let engine = node.process.as_mut().and_then(|it| it.driver.engine());
-        ends.push(engine.map(|it| it.core_mut().ends()).transpose()?);
+        ends.push(engine.map(|it| it.core_mut().views()).transpose()?);
     }
     let journals: Vec<_> = world.nodes.iter_mut().map(|it| it.journal(0)).collect();
     let journals: Vec<_> = journals.iter().map(|it| it.borrow()).collect();

@@ -1,12 +1,14 @@
 //! The store of a replica over sessions: what is durable of those that have ended. Each call is one
 //! transaction.
 
+use std::collections::HashSet;
 use std::sync::Arc;
 
+use themis_engine::sessions::doubles::{Search, Searched};
 use themis_engine::sessions::frames::{fitting, End};
-use themis_engine::sessions::history::{Ended, History, Restart};
+use themis_engine::sessions::history::{Ended, History, MadeAgain, Restart};
 use themis_engine::sessions::keys::PublicKeys;
-use themis_engine::sessions::requests::{Mark, Store};
+use themis_engine::sessions::requests::{Mark, SitOut, Store};
 use themis_engine::sessions::{Found, Read};
 
 /// What is durable.
@@ -22,12 +24,27 @@ pub struct Durable {
     gone: Option<u32>,
     /// How many sessions were closed here by the history of others.
     pub closed: u32,
+    /// An earlier store was lost.
+    is_again: bool,
+    /// The sessions up to this one are sat out, once that is known.
+    sits_out: Option<u32>,
 }
 
 impl Durable {
     /// Nothing has ended.
     pub fn new(first_keys: PublicKeys) -> Durable {
-        Durable { ended: Vec::new(), first_keys, marked: None, gone: None, closed: 0 }
+        let (ended, marked, gone, closed) = (Vec::new(), None, None, 0);
+        Durable { ended, first_keys, marked, gone, closed, is_again: false, sits_out: None }
+    }
+
+    /// What an operator makes where this one was lost.
+    pub fn made_again(&self) -> Durable {
+        Durable { is_again: true, ..Durable::new(self.first_keys.clone()) }
+    }
+
+    /// It is known what is sat out.
+    pub fn sit_out(&mut self, it: &SitOut) {
+        self.sits_out = Some(it.through());
     }
 
     /// The session that comes next, or runs.
@@ -65,8 +82,8 @@ impl Durable {
         self.gone = Some(session);
     }
 
-    /// What a process starts with.
-    pub fn restart(&self) -> Restart {
+    /// What a process starts with. The number is another one at each start.
+    pub fn restart(&self, drawn: u64) -> Restart {
         let mut history = History::new(self.first_keys.clone());
         self.ended.iter().for_each(|it| history.extend(it));
         let session = history.session;
@@ -74,7 +91,19 @@ impl Durable {
         let was_marked = self.marked.is_some() && self.marked >= before;
         let is_helped = before.is_some() && was_marked && self.gone < before;
         let helped = before.filter(|_| is_helped).and_then(|it| self.keys(it)).cloned();
-        Restart { history, is_opened: self.marked == Some(session), helped }
+        let made_again = match self.sits_out {
+            Some(through) => Some(MadeAgain::SitsOut { through }),
+            None => self.is_again.then_some(MadeAgain::Unknown { drawn }),
+        };
+        Restart { history, is_opened: self.marked == Some(session), helped, made_again }
+    }
+
+    /// Which transactions are final in a session that has ended.
+    pub fn search(&self, search: Search) -> Searched {
+        let asked: HashSet<_> = search.txs().copied().collect();
+        let finals = self.ended.iter().flat_map(|it| it.batches.iter().flatten());
+        let finals = finals.copied().filter(|it| asked.contains(it)).collect();
+        search.searched(&finals)
     }
 
     /// What a peer asked for.

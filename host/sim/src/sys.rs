@@ -9,7 +9,7 @@ use std::os::fd::FromRawFd;
 use std::time::Duration;
 
 /// A run that uses more processor time hangs. Seconds.
-const MAX_SECONDS: u64 = 120;
+const MAX_SECONDS: u64 = 1800;
 
 /// A process that was forked.
 pub struct Child {
@@ -67,7 +67,7 @@ fn limit() {
     // SAFETY: both calls take numbers, or read the limit. Where they fail, the child is not limited.
     unsafe {
         libc::prctl(libc::PR_SET_PDEATHSIG, libc::SIGKILL);
-        libc::setrlimit(libc::RLIMIT_CPU, &limit);
+        libc::setrlimit(libc::RLIMIT_CPU, &raw const limit);
     }
 }
 
@@ -80,7 +80,7 @@ pub fn wait(children: &mut Vec<Child>) -> Result<(usize, Ended)> {
     let (mut status, mut usage) = (0, MaybeUninit::<libc::rusage>::zeroed());
     // SAFETY: the call writes the status and the usage; zeros are a usage too.
     let (process, usage) = unsafe {
-        let process = checked(libc::wait4(-1, &mut status, 0, usage.as_mut_ptr()))?;
+        let process = checked(libc::wait4(-1, &raw mut status, 0, usage.as_mut_ptr()))?;
         (process, usage.assume_init())
     };
     let Some(at) = children.iter().position(|it| it.process == process) else {

@@ -6,14 +6,14 @@ use std::rc::Rc;
 
 use sha2::{Digest, Sha256};
 use themis::{Error, Message, Reason, Replica};
+use themis_deeds::parts::own_parts;
+use themis_deeds::signer::leaf_of;
+use themis_deeds::Faulty;
 use themis_engine::core::{Core, Delivered, Event, Turn};
-use themis_engine::sessions::reserved::marker;
 use themis_engine::tx::Tx;
-use themis_engine::wire::seals_in;
+use themis_engine::wire::{kind_of, seals_in, Kind};
 
-use crate::parts::own_parts;
-use crate::second_head::SecondHead;
-use crate::signer::leaf_of;
+use crate::keys::HEIGHT;
 
 /// One logged event, and what its turn returned.
 #[derive(Debug)]
@@ -41,11 +41,23 @@ pub struct Journal {
     leaves: HashMap<u32, [u8; 32]>,
     /// A leaf that sealed two statements.
     pub reused: Option<u32>,
+    /// What the core did since that was asked, counted in seals that are checked.
+    pub work: u32,
     /// Seals of messages that it refused, by their sender.
     pub wasted: BTreeMap<u32, usize>,
 }
 
 impl Journal {
+    /// Notes what the core does with an event. A seal is made in the time of two that are checked.
+    fn works_on(&mut self, me: u32, event: &Event) {
+        let Event::Delivered(it) = event else { return };
+        // The orders and votes in an own message were checked when they came.
+        let checked = if it.from == me { 0 } else { seals_in(it.data.len()).div_ceil(2) };
+        // A proposal is answered by a vote and a local order.
+        let made = if kind_of(&it.data) == Some(Kind::Propose) { 2 } else { 0 };
+        self.work += checked as u32 + 2 * made;
+    }
+
     /// Notes what a turn refused.
     fn refused(&mut self, event: &Event) {
         if let Event::Delivered(it) = event {
@@ -56,7 +68,7 @@ impl Journal {
     /// Notes the seals of a message that was sent.
     fn sent(&mut self, message: &[u8]) {
         for part in own_parts(message) {
-            let Some(leaf) = leaf_of(part.seal) else { continue };
+            let Some(leaf) = leaf_of(part.seal, HEIGHT) else { continue };
             let digest: [u8; 32] = Sha256::digest(part.statement).into();
             if *self.leaves.entry(leaf).or_insert(digest) != digest {
                 self.reused = Some(leaf);
@@ -65,61 +77,21 @@ impl Journal {
     }
 }
 
-/// The order in which transactions arrive.
-#[derive(Clone, Copy, Debug, Default, PartialEq, Eq)]
-pub enum Twist {
-    /// That of the host.
-    #[default]
-    None,
-    /// Its reverse.
-    Reversed,
-    /// Those of this client first.
-    First(u32),
-    /// The marker of the session first, from the start on.
-    Marked,
-}
-
-impl Twist {
-    fn applied(self, txs: &[Tx]) -> Vec<Tx> {
-        let mut out = txs.to_vec();
-        match self {
-            Twist::None | Twist::Marked => {}
-            Twist::Reversed => out.reverse(),
-            Twist::First(client) => out.sort_by_key(|it| it.client != client),
-        }
-        out
-    }
-}
-
 /// A replica of the library, and its journal.
 pub struct Tapped {
+    me: u32,
     replica: Replica,
     prepared: VecDeque<(Event, Vec<u8>)>,
     journal: Rc<RefCell<Journal>>,
-    /// In what order transactions arrive: a deed.
-    twist: Twist,
-    /// It equivocates: a deed.
-    second: Option<SecondHead>,
-    session: u32,
-    /// The marker has arrived.
-    is_marked: bool,
 }
+
+/// The core of a simulated replica, which may be faulty.
+pub type Played = Faulty<Tapped>;
 
 impl Tapped {
     /// A replica that was opened.
-    pub fn new(replica: Replica, journal: Rc<RefCell<Journal>>, session: u32) -> Tapped {
-        let (prepared, is_marked) = (VecDeque::new(), false);
-        Tapped { replica, prepared, journal, twist: Twist::None, second: None, session, is_marked }
-    }
-
-    /// One that receives in another order, or equivocates.
-    pub fn with_deeds(self, twist: Twist, second: Option<SecondHead>) -> Tapped {
-        Tapped { twist, second, ..self }
-    }
-
-    /// Its view and its commit.
-    pub fn ends(&mut self) -> Result<(u32, u32), Error> {
-        self.replica.views()
+    pub fn new(me: u32, replica: Replica, journal: Rc<RefCell<Journal>>) -> Tapped {
+        Tapped { me, replica, prepared: VecDeque::new(), journal }
     }
 }
 
@@ -131,22 +103,9 @@ impl Core for Tapped {
     }
 
     fn prepare(&mut self, event: &Event) -> Result<Vec<u8>, Error> {
-        let event = match event {
-            Event::Arrived(txs) => {
-                let mut txs = self.twist.applied(txs);
-                let marker = marker(self.session);
-                if self.twist == Twist::Marked {
-                    txs.retain(|it| *it != marker);
-                    if !std::mem::replace(&mut self.is_marked, true) {
-                        txs.insert(0, marker);
-                    }
-                }
-                Event::Arrived(txs)
-            }
-            other => other.clone(),
-        };
-        let record = self.replica.prepare(&event)?;
-        self.prepared.push_back((event, record.clone()));
+        let record = self.replica.prepare(event)?;
+        self.journal.borrow_mut().works_on(self.me, event);
+        self.prepared.push_back((event.clone(), record.clone()));
         Ok(record)
     }
 
@@ -157,9 +116,6 @@ impl Core for Tapped {
     fn act(&mut self) -> Result<Turn, Error> {
         let turn = Core::act(&mut self.replica)?;
         let Some((event, record)) = self.prepared.pop_front() else { return Err(Error::Unready) };
-        if let Some(second) = &mut self.second {
-            second.take(&event);
-        }
         if !matches!(turn, Turn::Again | Turn::Made(Reason::Done)) {
             self.journal.borrow_mut().refused(&event);
         }
@@ -183,11 +139,7 @@ impl Core for Tapped {
                 last = &it.bytes;
             }
         }
-        drop(journal);
-        Ok(match &mut self.second {
-            Some(second) => second.mixed(sends),
-            None => sends,
-        })
+        Ok(sends)
     }
 
     fn batch_count(&mut self) -> Result<usize, Error> {

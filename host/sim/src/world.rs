@@ -1,17 +1,19 @@
 //! The replicas, the network between them, and what happens.
 
+use std::collections::HashSet;
 use std::time::Duration;
 
 use bytes::Bytes;
 use rand::{Rng, SeedableRng};
 use rand_chacha::ChaCha8Rng;
+use themis_deeds::EVERY;
 use themis_engine::sessions::frames::in_session;
 use themis_engine::sessions::Output;
+use themis_engine::tx::Tx;
 use themis_engine::Time;
 
 use crate::change::Request;
 use crate::clock::Clock;
-use crate::deeds::EVERY;
 use crate::driver::inner_frame;
 use crate::network::Link;
 use crate::node::{Node, Violation};
@@ -38,6 +40,8 @@ pub struct World {
     pub(crate) rng: ChaCha8Rng,
     /// Which submissions each replica has answered with ok.
     pub(crate) answered: Vec<Vec<bool>>,
+    /// Transactions of numbers that are used twice, which an honest replica answered with ok.
+    pub doubles: HashSet<Tx>,
     pub(crate) tickets: u64,
     /// A batch was taken since that was asked.
     pub has_new: bool,
@@ -61,6 +65,9 @@ impl World {
             nodes.push(Node::new(&plan, me, Clock::new(offset, rate))?);
         }
         let link = |rng: &mut ChaCha8Rng| {
+            if plan.is_even {
+                return Link::new(plan.latency, Duration::ZERO);
+            }
             let latency = plan.latency.mul_f64(rng.gen_range(0.2..1.0));
             Link::new(latency, plan.latency.mul_f64(rng.gen_range(0.0..0.5)))
         };
@@ -73,6 +80,7 @@ impl World {
             links,
             rng,
             answered: vec![vec![false; plan.submissions.len()]; plan.n as usize],
+            doubles: HashSet::new(),
             tickets: 0,
             has_new: true,
             gap: (Time::default(), Duration::ZERO),
@@ -87,7 +95,7 @@ impl World {
             self.queue.put(Time::default(), replica, 0, Happening::Start);
             for (number, it) in self.plan.submissions.iter().enumerate() {
                 if it.to.is_none_or(|to| to == replica) {
-                    let late = self.links[0][replica as usize].longest();
+                    let late = self.client_delay(replica);
                     let at = at_ms(it.at) + late.mul_f64(self.rng.gen());
                     self.queue.put(at, replica, 0, Happening::Submit(number));
                 }
@@ -103,6 +111,14 @@ impl World {
             self.queue.put(at_ms(it.at), it.replica, 0, Happening::Fault(number));
             self.queue.put(at_ms(it.at + it.span), it.replica, 0, Happening::Heal(number));
         }
+    }
+
+    /// How late a replica gets at most what a client submits.
+    fn client_delay(&self, replica: u32) -> Duration {
+        if self.plan.is_even {
+            return Duration::ZERO;
+        }
+        self.links[0][replica as usize].longest()
     }
 
     /// The next thing happens; false where nothing does.
@@ -254,19 +270,22 @@ impl World {
                 }
                 Output::Answer(ticket, answer) => self.answer(replica, ticket, answer)?,
                 Output::Batch { position, txs } => {
-                    self.nodes[replica as usize].take_batch(position, txs)?;
+                    self.nodes[replica as usize].take_batch(position, txs, self.now)?;
                     self.has_new = true;
                     self.note_gap(replica);
                 }
                 Output::Freed(peer, count) => self.free(replica, peer, count)?,
-                Output::Received(_) => {}
+                // What is not there ahead is made when it is needed.
+                Output::Received(_) | Output::OpenAhead(..) => {}
                 Output::Noted(note) => self.receipts.note(replica, note),
                 Output::GrowKey(session) => self.ask(replica, Request::GrowKey(session)),
                 Output::Read(it) => self.ask(replica, Request::Read(it)),
+                Output::Search(it) => self.ask(replica, Request::Search(it)),
                 Output::Store(it) => self.ask(replica, Request::Store(it)),
                 Output::OpenLog(it) => self.ask(replica, Request::OpenLog(it)),
                 Output::Mark(it) => self.ask(replica, Request::Mark(it)),
                 Output::Recover(it) => self.ask(replica, Request::Recover(it)),
+                Output::SitOut(it) => self.ask(replica, Request::SitOut(it)),
                 Output::Retired(session) => {
                     if let Some(store) = &mut self.nodes[replica as usize].store {
                         store.retire(session);

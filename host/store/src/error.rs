@@ -39,6 +39,8 @@ pub enum Error {
     OtherDigest(u32),
     /// The transaction is final already.
     Twice(Tx),
+    /// It is the replica's first store, so it sits nothing out for a lost one.
+    NeverLost,
 }
 
 impl fmt::Display for Error {
@@ -67,6 +69,7 @@ impl fmt::Display for Error {
                 tx::write(tx, &mut text);
                 write!(to, "transaction {text} is final already")
             }
+            Error::NeverLost => to.write_str("no earlier store of this replica was lost"),
         }
     }
 }

@@ -22,6 +22,7 @@
 
 mod carried;
 mod error;
+mod origin;
 mod read;
 mod rows;
 mod schema;
@@ -30,6 +31,7 @@ mod store;
 mod windows;
 
 pub use error::Error;
+pub use origin::Origin;
 pub use read::{Batch, Reader};
 pub use rows::{chain, PublicKeys, Sha};
 pub use schema::Identity;

@@ -1,5 +1,6 @@
 //! What is read while a replica runs.
 
+use std::collections::HashSet;
 use std::path::Path;
 
 use rusqlite::{params, Connection, OptionalExtension};
@@ -101,6 +102,17 @@ impl Reader {
         } else {
             corrupt(format!("no batch {position} has what is said to be in it"))
         }
+    }
+
+    /// Those of these transactions that a stored batch has. The list has to be there from its first
+    /// batch on: of what is missing nothing is known.
+    pub fn finals<'a>(&self, txs: impl Iterator<Item = &'a Tx>) -> Result<HashSet<Tx>, Error> {
+        self.batches(0, 1, 0)?;
+        let mut out = HashSet::new();
+        for tx in txs {
+            out.extend(self.position_of(tx)?.map(|_| *tx));
+        }
+        Ok(out)
     }
 }
 

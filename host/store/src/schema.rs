@@ -13,19 +13,22 @@ use std::time::Duration;
 use rusqlite::{params, Connection, OpenFlags};
 
 use crate::error::{corrupt, Error};
+use crate::origin::{self, Origin};
 use crate::rows::Sha;
 
 /// Names the program in the file's header: "TMSQ".
 const APPLICATION: i64 = 0x544d_5351;
 /// The format of the tables.
-const VERSION: i64 = 1;
+const VERSION: i64 = 2;
+/// The format before: without the table `origin`.
+const WITHOUT_ORIGIN: i64 = 1;
 /// A writer waits for so long for a lock that another connection has.
 const BUSY: Duration = Duration::from_secs(5);
 
 /// The tables. `state` is that of [`crate::State`]. `digest` of a batch chains all batches up to it;
 /// that of a session chains all before it, and its `windows` is the sum of the checks of all rows of
 /// windows, before it. `batches` has the order, and `finals` finds a transaction. `carried` is what
-/// was carried over to the last session.
+/// was carried over to the last session. `ORIGIN` has one more table.
 const TABLES: &str = "
     CREATE TABLE identity (
         only_one INTEGER PRIMARY KEY CHECK (only_one = 1),
@@ -67,6 +70,16 @@ const TABLES: &str = "
     ) STRICT;
 ";
 
+/// Whether an earlier store of the replica was lost.
+const ORIGIN: &str = "
+    CREATE TABLE origin (
+        only_one INTEGER PRIMARY KEY CHECK (only_one = 1),
+        is_again INTEGER NOT NULL,
+        sits_out INTEGER,
+        row_check BLOB NOT NULL
+    ) STRICT;
+";
+
 /// Whose store it is.
 #[derive(Clone, Copy, Debug, PartialEq, Eq)]
 pub struct Identity {
@@ -79,10 +92,23 @@ pub struct Identity {
 /// A connection that writes, to a file that exists.
 pub fn open(path: &Path, owner: &Identity) -> Result<Connection, Error> {
     let flags = OpenFlags::SQLITE_OPEN_READ_WRITE | OpenFlags::SQLITE_OPEN_NO_MUTEX;
-    let base = connect(path, flags)?;
-    check(&base, owner)?;
+    let mut base = connect(path, flags)?;
+    let version = check(&base, owner)?;
     base.pragma_update(None, "journal_mode", "WAL")?;
+    if version == WITHOUT_ORIGIN {
+        let work = base.transaction()?;
+        add_origin(&work, Origin::First)?;
+        work.commit()?;
+    }
     Ok(base)
+}
+
+/// Makes the table that the format before lacks.
+fn add_origin(work: &Connection, origin: Origin) -> Result<(), Error> {
+    work.execute_batch(ORIGIN)?;
+    origin::put(work, origin)?;
+    work.pragma_update(None, "user_version", VERSION)?;
+    Ok(())
 }
 
 /// A connection that reads.
@@ -96,7 +122,7 @@ pub fn open_to_read(path: &Path, owner: &Identity) -> Result<Connection, Error> 
 }
 
 /// Makes the tables in a new file.
-pub fn create(path: &Path, owner: &Identity) -> Result<Connection, Error> {
+pub fn create(path: &Path, owner: &Identity, origin: Origin) -> Result<Connection, Error> {
     let flags = OpenFlags::SQLITE_OPEN_READ_WRITE
         | OpenFlags::SQLITE_OPEN_CREATE
         | OpenFlags::SQLITE_OPEN_NO_MUTEX;
@@ -104,8 +130,8 @@ pub fn create(path: &Path, owner: &Identity) -> Result<Connection, Error> {
     base.pragma_update(None, "journal_mode", "WAL")?;
     let work = base.transaction()?;
     work.pragma_update(None, "application_id", APPLICATION)?;
-    work.pragma_update(None, "user_version", VERSION)?;
     work.execute_batch(TABLES)?;
+    add_origin(&work, origin)?;
     let insert = "INSERT INTO identity VALUES (1, ?, ?)";
     work.execute(insert, params![owner.cluster, owner.replica])?;
     work.commit()?;
@@ -125,14 +151,15 @@ fn connect(path: &Path, flags: OpenFlags) -> Result<Connection, Error> {
     Ok(base)
 }
 
-/// Whether the file is a store of this program and of this replica.
-fn check(base: &Connection, owner: &Identity) -> Result<(), Error> {
+/// Whether the file is a store of this program and of this replica; its format.
+fn check(base: &Connection, owner: &Identity) -> Result<i64, Error> {
     let number = |name| base.pragma_query_value(None, name, |row| row.get::<_, i64>(0));
     if number("application_id")? != APPLICATION {
         return Err(Error::NotAStore);
     }
-    match number("user_version")? {
-        VERSION => {}
+    let version = number("user_version")?;
+    match version {
+        VERSION | WITHOUT_ORIGIN => {}
         newer if newer > VERSION => return Err(Error::Newer(newer)),
         other => return corrupt(format!("format {other}")),
     }
@@ -144,6 +171,6 @@ fn check(base: &Connection, owner: &Identity) -> Result<(), Error> {
     } else if found.replica != owner.replica {
         Err(Error::OtherReplica(found.replica))
     } else {
-        Ok(())
+        Ok(version)
     }
 }

@@ -9,6 +9,7 @@ use themis_engine::tx::Tx;
 use themis_engine::window::Windows;
 
 use crate::error::{corrupt, Error};
+use crate::origin::{self, Origin};
 use crate::rows::{bytes_of, chain, column, signed, PublicKeys, Sha};
 use crate::schema::{self, Identity};
 use crate::sessions::{self, Session, State};
@@ -46,6 +47,8 @@ pub struct History {
     pub helped: Option<Session>,
     /// Which numbers of clients are final in the sessions that have ended.
     pub windows: Windows,
+    /// Whether an earlier store was lost.
+    pub origin: Origin,
 }
 
 /// The store of one replica, for its one writer.
@@ -63,6 +66,24 @@ impl Store {
         setting: &str,
         keys: &PublicKeys,
     ) -> Result<(), Error> {
+        let first = first_session(session, setting, keys.clone());
+        Store::make(path, owner, &first, Origin::First)
+    }
+
+    /// Makes the store of a replica that has lost its first one. It starts with what a new one has, and
+    /// takes part in a session only once it is known that it did not seal there before.
+    pub fn create_again(
+        path: &Path,
+        owner: &Identity,
+        session: u32,
+        setting: &str,
+        keys: &PublicKeys,
+    ) -> Result<(), Error> {
+        let first = first_session(session, setting, keys.clone());
+        Store::make(path, owner, &first, Origin::Again { sits_out: None })
+    }
+
+    fn make(path: &Path, owner: &Identity, first: &Session, origin: Origin) -> Result<(), Error> {
         if path.exists() {
             return Err(Error::Exists);
         }
@@ -70,12 +91,9 @@ impl Store {
         for name in ["new", "new-wal", "new-shm"] {
             remove(&path.with_extension(name)).map_err(disk)?;
         }
-        let base = schema::create(&new, owner)?;
-        let (setting, keys) = (setting.to_owned(), keys.clone());
-        let (number, state, digest, windows) = (session, State::Next, [0; 32], [0; 32]);
-        let next = Session { number, state, setting, keys, first: 0, digest, windows };
-        sessions::put(&base, &next)?;
-        carried::put(&base, session, &[])?;
+        let base = schema::create(&new, owner, origin)?;
+        sessions::put(&base, first)?;
+        carried::put(&base, first.number, &[])?;
         // The last connection moves the WAL into the file, and removes it.
         base.close().map_err(|(_, fault)| Error::from(fault))?;
         File::open(&new).and_then(|it| it.sync_all()).map_err(disk)?;
@@ -113,7 +131,8 @@ impl Store {
         };
         let carried = carried::find(&self.base, session.number)?;
         let windows = windows::all(&self.base, &session.windows)?;
-        Ok(History { session, carried, helped, windows })
+        let origin = origin::find(&self.base)?;
+        Ok(History { session, carried, helped, windows, origin })
     }
 
     /// Stores how a session ended, in one transaction. The next one then comes next. A session whose
@@ -191,10 +210,27 @@ impl Store {
         let _ = self.base.query_row("PRAGMA wal_checkpoint(TRUNCATE)", [], |_| Ok(()));
     }
 
+    /// The replica sits out the sessions up to this one: its first store was lost.
+    pub fn sit_out(&mut self, through: u32) -> Result<(), Error> {
+        match origin::find(&self.base)? {
+            Origin::Again { sits_out: None } => {
+                origin::put(&self.base, Origin::Again { sits_out: Some(through) })
+            }
+            Origin::Again { sits_out: Some(_) } => Ok(()),
+            Origin::First => Err(Error::NeverLost),
+        }
+    }
+
     #[cfg(test)]
     pub(crate) fn base(&self) -> &Connection {
         &self.base
     }
+}
+
+/// A session before which nothing is final.
+fn first_session(number: u32, setting: &str, keys: PublicKeys) -> Session {
+    let (state, digest, windows) = (State::Next, [0; 32], [0; 32]);
+    Session { number, state, setting: setting.to_owned(), keys, first: 0, digest, windows }
 }
 
 fn remove(path: &Path) -> io::Result<()> {

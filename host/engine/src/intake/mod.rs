@@ -9,7 +9,7 @@
 
 mod desk;
 
-use std::collections::{HashMap, VecDeque};
+use std::collections::{HashMap, HashSet, VecDeque};
 
 use bytes::Bytes;
 use themis::{Arrivals, Error, Held, Receipt, Standing, Taken, Tx};
@@ -31,6 +31,29 @@ const MAX_EARLY: usize = 16_384;
 const MAX_EARLY_BLOCKS: usize = 256;
 /// What one block can name, and more.
 const MAX_NOTED: usize = 4096;
+
+/// The library holds no more of own clients.
+const MAX_OWN: usize = 16_384;
+
+/// Who brought what waits.
+#[derive(Clone, Copy, Debug, PartialEq, Eq)]
+pub enum Source {
+    /// An own client alone, or first.
+    Client,
+    /// This peer, and no own client.
+    Peer(u32),
+    /// A block, or an own client after a peer.
+    Other,
+}
+
+/// One that was received and has not arrived.
+#[derive(Clone, Copy, Debug, PartialEq, Eq)]
+pub struct Waiting {
+    /// The transaction.
+    pub tx: Tx,
+    /// Who brought it.
+    pub source: Source,
+}
 
 /// What a replica received or heard, for a test: in this order it decides who comes first.
 #[derive(Clone, Copy, Debug, PartialEq, Eq)]
@@ -65,6 +88,12 @@ pub struct Intake {
     is_open: bool,
     /// What each client has waiting here.
     pub own: Own,
+    /// What only this peer brought, until it is final.
+    told: HashMap<Tx, u32>,
+    /// Of these, what the library holds as one of an own client: it waited over a change of session.
+    lent: HashSet<Tx>,
+    /// What the library had no room for since the last call of `take_full`.
+    full: HashSet<Tx>,
     /// What was received since the last call of `take_received`.
     received: Vec<Tx>,
     /// The session ends.
@@ -88,6 +117,9 @@ impl Intake {
             early_blocks: VecDeque::new(),
             is_open: place.quorum() <= 1,
             own: Own::default(),
+            told: HashMap::new(),
+            lent: HashSet::new(),
+            full: HashSet::new(),
             received: Vec::new(),
             is_ending: false,
             notes: is_noted.then(Vec::new),
@@ -106,7 +138,16 @@ impl Intake {
 
     /// Those of them that came from the own clients.
     pub fn of_clients(&self) -> usize {
+        self.held_as_own().saturating_sub(self.lent.len())
+    }
+
+    fn held_as_own(&self) -> usize {
         self.held.own as usize + self.early_of(|it| it == self.place.me)
+    }
+
+    /// How many more of own clients the library can hold.
+    pub fn own_room(&self) -> usize {
+        MAX_OWN.saturating_sub(self.held_as_own())
     }
 
     /// Transactions that arrived.
@@ -144,6 +185,7 @@ impl Intake {
                 if desk.standing(tx)? == Standing::Unknown {
                     receipts.push(Receipt { tx: *tx, stamp: 0 });
                     self.own.put(*tx);
+                    self.is_of_client_too(tx);
                 }
             }
             let new = receipts.len();
@@ -152,14 +194,71 @@ impl Intake {
         }
         let mut new = 0;
         for tx in txs {
-            if desk.submit(tx)? == Taken::New {
-                new += 1;
-                self.held.own += 1;
-                self.own.put(*tx);
-                self.received(*tx);
+            match self.submit_one(desk, tx)? {
+                Taken::New => {
+                    new += 1;
+                    self.own.put(*tx);
+                }
+                Taken::Held => self.is_of_client_too(tx),
+                Taken::Full | Taken::Final | Taken::Beyond | Taken::Unknown(_) => {}
             }
         }
         Ok(new)
+    }
+
+    fn submit_one(&mut self, desk: &mut impl Desk, tx: &Tx) -> Result<Taken, Error> {
+        let taken = desk.submit(tx)?;
+        match taken {
+            Taken::New => {
+                self.held.own += 1;
+                self.received(*tx);
+            }
+            Taken::Full => {
+                self.forget(tx);
+                self.full.insert(*tx);
+            }
+            Taken::Held | Taken::Final | Taken::Beyond | Taken::Unknown(_) => {}
+        }
+        Ok(taken)
+    }
+
+    /// An own client submitted what a peer may have told of: it waits here whatever the peer does.
+    fn is_of_client_too(&mut self, tx: &Tx) {
+        self.told.remove(tx);
+        if self.lent.remove(tx) {
+            self.own.put(*tx);
+        }
+    }
+
+    /// What waited in the session before, in its order. What a peer alone told of comes in its place
+    /// too, since who comes first must not change with the session; it counts as that peer's still.
+    pub fn resume(&mut self, desk: &mut impl Desk, waiting: &[Waiting]) -> Result<(), Error> {
+        let is_told = |it: &Waiting| matches!(it.source, Source::Peer(_));
+        // The own clients' come first where there is not room for all.
+        let own = waiting.iter().filter(|it| !is_told(it)).count();
+        let mut room = self.own_room().saturating_sub(own);
+        let mut receipts = Vec::with_capacity(waiting.len());
+        for Waiting { tx, source } in waiting {
+            if desk.standing(tx)? != Standing::Unknown {
+                continue;
+            }
+            match source {
+                Source::Client => self.own.put(*tx),
+                Source::Peer(_) if room == 0 => continue,
+                Source::Peer(peer) => {
+                    room -= 1;
+                    self.told.insert(*tx, *peer);
+                    self.lent.insert(*tx);
+                }
+                Source::Other => {}
+            }
+            receipts.push(Receipt { tx: *tx, stamp: 0 });
+        }
+        self.early.push((self.place.me, receipts));
+        if self.is_open {
+            self.open(desk)?;
+        }
+        Ok(())
     }
 
     /// Takes receipts of a peer, with their stamps, and its clock. What finds no room is dropped:
@@ -185,7 +284,8 @@ impl Intake {
         Ok(())
     }
 
-    fn hear_receipts(
+    /// The same once receipts are stamped.
+    pub(crate) fn hear_receipts(
         &mut self,
         desk: &mut impl Desk,
         peer: u32,
@@ -194,6 +294,7 @@ impl Intake {
         for it in receipts {
             let taken = desk.hear(peer, it)?;
             if taken == Taken::New {
+                self.told.insert(it.tx, peer);
                 self.received(it.tx);
             }
             if matches!(taken, Taken::New | Taken::Held | Taken::Final) {
@@ -230,8 +331,13 @@ impl Intake {
         (self.is_open, self.is_stale) = (true, true);
         for (source, receipts) in std::mem::take(&mut self.early) {
             if source == self.place.me {
-                let txs: Vec<Tx> = receipts.into_iter().map(|it| it.tx).collect();
-                self.submit(desk, &txs)?;
+                for Receipt { tx, .. } in receipts {
+                    // Where a peer's came first, the library holds it as that peer's.
+                    let is_held = self.submit_one(desk, &tx)? == Taken::Held;
+                    if is_held && !self.lent.remove(&tx) {
+                        self.told.remove(&tx);
+                    }
+                }
             } else {
                 self.hear_receipts(desk, source, &receipts)?;
             }
@@ -243,7 +349,7 @@ impl Intake {
     }
 
     /// What was received and has not arrived, in its order.
-    pub fn waiting(&self, desk: &mut impl Desk) -> Result<Vec<Tx>, Error> {
+    pub fn waiting(&self, desk: &mut impl Desk) -> Result<Vec<Waiting>, Error> {
         let mut out = Vec::new();
         for Receipt { tx, .. } in desk.receipts(0, self.held.all)? {
             if desk.standing(&tx)? == Standing::Waiting {
@@ -252,7 +358,15 @@ impl Intake {
         }
         let early = self.early.iter().filter(|(source, _)| *source == self.place.me);
         out.extend(early.flat_map(|(_, receipts)| receipts).map(|it| it.tx));
-        Ok(out)
+        Ok(out.into_iter().map(|tx| Waiting { tx, source: self.source_of(&tx) }).collect())
+    }
+
+    fn source_of(&self, tx: &Tx) -> Source {
+        match self.told.get(tx) {
+            _ if self.own.has(tx) => Source::Client,
+            Some(peer) => Source::Peer(*peer),
+            None => Source::Other,
+        }
     }
 
     // ---- what is restored, and what leaves
@@ -302,9 +416,16 @@ impl Intake {
         self.is_stale = true;
         self.finals += txs.len();
         desk.settle(txs)?;
-        txs.iter().for_each(|it| self.own.remove(it));
+        txs.iter().for_each(|it| self.forget(it));
         self.held = desk.held()?;
         Ok(())
+    }
+
+    /// It is not held any more.
+    fn forget(&mut self, tx: &Tx) {
+        self.own.remove(tx);
+        self.told.remove(tx);
+        self.lent.remove(tx);
     }
 
     // ---- what blocks say
@@ -382,6 +503,11 @@ impl Intake {
     /// What a client or a peer brought first, since the last call.
     pub fn take_received(&mut self) -> Vec<Tx> {
         std::mem::take(&mut self.received)
+    }
+
+    /// What the library had no room for, since the last call.
+    pub fn take_full(&mut self) -> HashSet<Tx> {
+        std::mem::take(&mut self.full)
     }
 
     fn note(&mut self, note: Note) {

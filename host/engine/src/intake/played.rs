@@ -42,12 +42,14 @@ pub struct PlayedDesk {
     finals: HashSet<Tx>,
     clock: u64,
     room: usize,
+    /// How many more of own clients it takes.
+    pub own_room: usize,
 }
 
 impl Default for PlayedDesk {
     fn default() -> PlayedDesk {
         let (calls, held, finals) = (Vec::new(), Vec::new(), HashSet::new());
-        PlayedDesk { calls, held, finals, clock: 0, room: ROOM }
+        PlayedDesk { calls, held, finals, clock: 0, room: ROOM, own_room: 16_384 }
     }
 }
 
@@ -68,6 +70,12 @@ impl PlayedDesk {
 impl Desk for PlayedDesk {
     fn submit(&mut self, tx: &Tx) -> Result<Taken, Error> {
         self.calls.push(Call::Submit(*tx));
+        if self.standing(tx)? == Standing::Unknown {
+            if self.own_room == 0 {
+                return Ok(Taken::Full);
+            }
+            self.own_room -= 1;
+        }
         Ok(self.receive(*tx))
     }
 

@@ -6,16 +6,20 @@ use std::time::Duration;
 
 use sha2::{Digest, Sha256};
 
-use crate::sessions::frames::{AskHistory, End, HistoryPart};
+use crate::sessions::frames::{AskHistory, End, HistoryPart, MAX_PART};
 use crate::time::Time;
-use crate::tx::{self, Tx};
+use crate::tx::{self, Tx, TX_BYTES};
 
 /// Between requests for the end.
 const ASK_EVERY: Duration = Duration::from_millis(500);
-/// For so long the batches of a peer are waited for.
+/// For so long the next batches of a peer are waited for.
 const PATIENCE: Duration = Duration::from_secs(1);
+/// A peer may take so long for all of them, and [`PATIENCE`] for each part that they can fill.
+const START: Duration = Duration::from_secs(2);
 /// Transactions of one session. No honest replica has more of it.
 const MAX_TXS: usize = 1 << 17;
+/// Parts that these fill, each at least by half.
+const MAX_PARTS: usize = 2 * MAX_TXS * TX_BYTES / MAX_PART;
 
 /// The digest of a list with one more batch.
 pub fn chained(digest: &[u8; 32], txs: &[Tx]) -> [u8; 32] {
@@ -35,11 +39,27 @@ pub struct Behind {
     /// What each peer reports.
     ends: BTreeMap<u32, End>,
     asked_at: Option<Time>,
-    /// The peer whose batches are taken, and when it was asked last.
-    giver: Option<(u32, Time)>,
+    /// The peer whose batches are taken.
+    giver: Option<Giver>,
     batches: Vec<Vec<Tx>>,
     /// Peers whose batches did not lead to the end that they reported, or did not come.
     refused: Vec<u32>,
+}
+
+#[derive(Clone, Copy, Debug)]
+struct Giver {
+    peer: u32,
+    /// When it was asked last.
+    asked_at: Time,
+    /// When it has to be done.
+    until: Time,
+}
+
+impl Giver {
+    /// One that brings a little now and then could keep the replica from all others.
+    fn is_late(&self, now: Time) -> bool {
+        now.since(self.asked_at) >= PATIENCE || now >= self.until
+    }
 }
 
 /// What a peer is asked.
@@ -97,8 +117,8 @@ impl Behind {
     /// comes.
     fn ask_for_batches(&mut self, end: End, now: Time) -> Option<Asked> {
         match self.giver {
-            Some((_, at)) if now.since(at) < PATIENCE => return None,
-            Some((peer, _)) => self.refuse(peer),
+            Some(giver) if !giver.is_late(now) => return None,
+            Some(giver) => self.refuse(giver.peer),
             None => {}
         }
         let agreeing = || self.ends.iter().filter(|(_, it)| **it == end).map(|(peer, _)| *peer);
@@ -106,7 +126,9 @@ impl Behind {
             self.refused.clear();
         }
         let peer = agreeing().find(|it| !self.refused.contains(it))?;
-        self.giver = Some((peer, now));
+        // A batch in each part at least, as many as are missing.
+        let parts = end.position.saturating_sub(self.first).min(MAX_PARTS) as u32;
+        self.giver = Some(Giver { peer, asked_at: now, until: now + START + PATIENCE * parts });
         Some((peer, self.ask(true)))
     }
 
@@ -128,11 +150,12 @@ impl Behind {
         }
         self.ends.insert(peer, part.end);
         let Some(end) = self.known_end() else { return (None, None) };
-        let is_given = self.giver.is_some_and(|(it, _)| it == peer) && !part.batches.is_empty();
+        let giver = self.giver.filter(|it| it.peer == peer && now < it.until);
         let has_come = self.first + self.batches.len();
-        if !is_given || part.from != has_come {
+        let Some(giver) = giver.filter(|_| !part.batches.is_empty() && part.from == has_come)
+        else {
             return (self.ask_for_batches(end, now), None);
-        }
+        };
         self.batches.extend(part.batches);
         if self.batches.iter().map(Vec::len).sum::<usize>() > MAX_TXS {
             self.refuse(peer);
@@ -140,7 +163,7 @@ impl Behind {
         }
         let has_come = self.first + self.batches.len();
         if has_come < end.position {
-            self.giver = Some((peer, now));
+            self.giver = Some(Giver { asked_at: now, ..giver });
             return (Some((peer, self.ask(true))), None);
         }
         let digest = self.batches.iter().fold(self.digest, |digest, it| chained(&digest, it));
@@ -190,6 +213,26 @@ mod tests {
         assert_eq!(it.take(2, part(end, 10, &all[..2]), NOW), (Some((2, ask(12))), None));
         let taken = Taken { batches: all.to_vec(), digest: end.digest };
         assert_eq!(it.take(2, part(end, 12, &all[2..]), NOW), (None, Some(taken)));
+    }
+
+    /// It gives a batch right before each time that it would be left, for a session of 1,000 batches.
+    #[test]
+    fn one_that_gives_slowly_is_left_for_another() {
+        let (mut it, mut now) = (behind(), NOW);
+        let all: Vec<_> = (0..1000).map(batch).collect();
+        let end = end_of(&all);
+        it.take(1, part(end, 10, &[]), now);
+        let (mut asked, _) = it.take(2, part(end, 10, &[]), now);
+        let slow = asked.map(|it| it.0);
+        while let Some((peer, ask)) = asked.filter(|it| Some(it.0) == slow) {
+            now = now + Duration::from_millis(900);
+            asked = it.take(peer, part(end, ask.from, &[batch(0)]), now).0;
+        }
+        let most = START + PATIENCE * (MAX_PARTS as u32 + 1);
+        assert!(now.since(NOW) < most, "{:?}", now.since(NOW));
+        let (peer, ask) = asked.expect("the other one is asked");
+        assert_eq!(ask.from, 10);
+        assert!(it.take(peer, part(end, 10, &all), now).1.is_some());
     }
 
     #[test]

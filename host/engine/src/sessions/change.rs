@@ -1,6 +1,6 @@
 //! The change from one session to the next: cut, store, open, mark, run.
 
-use std::collections::HashSet;
+use std::collections::{HashMap, HashSet};
 use std::sync::Arc;
 
 use themis::{Error, Tx};
@@ -8,14 +8,16 @@ use themis::{Error, Tx};
 use crate::core::Core;
 use crate::engine::{self, Engine, Restored};
 use crate::sessions::behind::Taken;
+use crate::sessions::between::Between;
 use crate::sessions::history::{Ended, History};
 use crate::sessions::keys::{AgreedKeys, PublicKey};
-use crate::sessions::old::Old;
-use crate::sessions::requests::{Mark, Marked, Opened, Recovered, Store, Stored};
+use crate::sessions::old::{Help, Old};
+use crate::sessions::requests::{Mark, Marked, Opened, Recover, Recovered, Store, Stored};
 use crate::sessions::running::Session;
 use crate::sessions::service::{Sessions, Stage};
 use crate::sessions::Output;
 use crate::time::Time;
+use crate::window::Check;
 
 /// What arrived and is in none of the batches, in the order of arrival.
 fn left_over(arrived: &[Tx], batches: &[Vec<Tx>]) -> Vec<Tx> {
@@ -29,7 +31,7 @@ impl<C: Core> Sessions<C> {
         let Stage::Running(mut engine) = std::mem::replace(&mut self.stage, Stage::Storing) else {
             return Ok(());
         };
-        (self.waiting, self.clients) = engine.take_waiting()?;
+        self.take_waiting(&mut engine)?;
         let Some(session) = engine.session() else { return Ok(()) };
         let ended = Ended {
             session: session.number(),
@@ -40,9 +42,15 @@ impl<C: Core> Sessions<C> {
             carried: self.carried_from(session),
         };
         self.retire();
-        self.old = Some(Old { session: ended.session, engine, since: now });
+        self.old = Some(Old { session: ended.session, help: Help::Engine(engine), since: now });
         self.store(ended, false);
         self.collect(now)
+    }
+
+    fn take_waiting(&mut self, engine: &mut Engine<C>) -> Result<(), Error> {
+        let (waiting, clients) = engine.take_waiting()?;
+        (self.waiting, self.clients) = (Between::of(waiting), clients);
+        Ok(())
     }
 
     /// What is carried over from a session that was running. Where nothing has arrived yet, that is
@@ -67,11 +75,13 @@ impl<C: Core> Sessions<C> {
     pub(super) fn stored(&mut self, stored: &Stored) {
         let Some(ended) = self.ended.take_if(|it| it.session == stored.session) else { return };
         self.history.extend(&ended);
+        if self.old.as_ref().is_none_or(|it| it.session != ended.session) {
+            // Its history was taken from others, so nobody is helped by its log.
+            self.put(Output::Retired(ended.session));
+        }
         let finals: HashSet<&Tx> = ended.batches.iter().flatten().collect();
-        self.waiting.retain(|it| !finals.contains(it));
-        let is_final = |it: &Tx| Ok(finals.contains(it));
-        // It fails where `is_final` does.
-        for (ticket, answer) in self.clients.take(false, is_final).unwrap_or_default() {
+        self.waiting.settle(&finals);
+        for (ticket, answer) in self.clients.settle(|it| finals.contains(it)) {
             self.put(Output::Answer(ticket, answer));
         }
         self.begin();
@@ -109,10 +119,14 @@ impl<C: Core> Sessions<C> {
                 self.sit_out();
                 Ok(())
             }
-            Some((core, log, header)) if recovered.session + 1 == self.history.session => {
-                self.help(recovered.session, core, &log, header, now)
+            Some((core, log, header)) => self.help(recovered.session, core, &log, header, now),
+            None => {
+                // It can help nobody, also after the next start.
+                if self.old.take_if(|it| it.session == recovered.session).is_some() {
+                    self.put(Output::Retired(recovered.session));
+                }
+                Ok(())
             }
-            Some(_) | None => Ok(()),
         }
     }
 
@@ -128,17 +142,45 @@ impl<C: Core> Sessions<C> {
             digest: self.history.digest,
         };
         let mut engine = Engine::open(self.place, self.options, core, restored, now)?;
-        let (waiting, clients) =
-            (std::mem::take(&mut self.waiting), std::mem::take(&mut self.clients));
-        engine.resume(&waiting, clients)?;
+        engine.send_first(now)?;
+        self.resume(&mut engine)?;
         self.stage = Stage::Running(Box::new(engine));
         (self.progress, self.progress_at, self.met) = ((0, 0), now, 0);
+        self.end_if_asked();
         self.grow_key();
         self.hear_early(now)?;
         self.collect(now)
     }
 
-    /// Opens the engine of the session before again, for those that are behind.
+    /// What waited goes on in the session, with its clients. The windows may have moved since it was
+    /// taken: where another transaction with its number is final, it is dropped, as a client's would be
+    /// refused now.
+    fn resume(&mut self, engine: &mut Engine<C>) -> Result<(), Error> {
+        let (mut kept, mut refused) = (Vec::new(), HashMap::new());
+        for it in self.waiting.take() {
+            match engine.check(&it.tx)? {
+                Check::New => kept.push(it),
+                why => drop(refused.insert(it.tx, why)),
+            }
+        }
+        let mut clients = std::mem::take(&mut self.clients);
+        for (ticket, answer) in clients.refuse(|it| refused.get(it).copied()) {
+            self.put(Output::Answer(ticket, answer));
+        }
+        engine.resume(&kept, clients)
+    }
+
+    /// The log of the session before is opened, where a peer is behind.
+    pub(super) fn open_old(&mut self) {
+        let Some(old) = &mut self.old else { return };
+        let session = old.session;
+        if let Some(keys) = old.wants_log(&self.peers) {
+            self.put(Output::Recover(Recover { session, keys }));
+        }
+    }
+
+    /// Opens the engine of the session before again, for those that are behind. Where it was retired
+    /// meanwhile, its log is closed again.
     fn help(
         &mut self,
         session: u32,
@@ -147,21 +189,27 @@ impl<C: Core> Sessions<C> {
         header: usize,
         now: Time,
     ) -> Result<(), Error> {
+        let is_awaited = |it: &Old<C>| it.session == session && matches!(it.help, Help::Opening);
+        if !self.old.as_ref().is_some_and(is_awaited) {
+            self.put(Output::Retired(session));
+            return Ok(());
+        }
         // Its batches are stored, and nothing arrives there: only its number counts.
         let before = History { session, ..History::new(Vec::new()) };
         let known = Session::new(self.place, &before, &self.known_key);
         let restored = Restored { log, header, session: Some(known), ..Restored::default() };
         let mut engine = Engine::open(self.place, self.options, core, restored, now)?;
         drop(engine.outputs());
-        if engine.is_cut() {
-            self.old = Some(Old { session, engine: Box::new(engine), since: now });
-        }
+        let is_cut = engine.is_cut();
+        let help = Help::Engine(Box::new(engine));
+        self.old = is_cut.then_some(Old { session, help, since: now });
         Ok(())
     }
 
     /// Takes no part in the session.
     pub(super) fn sit_out(&mut self) {
         self.stage = Stage::Out;
+        self.look_soon(); // the others may be far ahead
         self.grow_key();
     }
 
@@ -173,7 +221,7 @@ impl<C: Core> Sessions<C> {
         let (mut shown, mut is_closed) = (0, false);
         let mut carried = left_over(&self.history.carried, &taken.batches);
         if let Stage::Running(mut engine) = std::mem::replace(&mut self.stage, Stage::Storing) {
-            (self.waiting, self.clients) = engine.take_waiting()?;
+            self.take_waiting(&mut engine)?;
             self.free(&mut engine);
             (shown, is_closed) = (engine.final_count(), true);
             if let Some(session) = engine.session() {
@@ -195,12 +243,19 @@ impl<C: Core> Sessions<C> {
 
     // ---- keys
 
-    /// The own key of the session after this one is made ahead, and announced in this one.
-    fn grow_key(&mut self) {
+    /// The own key of the session after this one is made ahead, and announced in this one. None is
+    /// made for a session in which this replica can have no part.
+    pub(super) fn grow_key(&mut self) {
         let session = self.history.session + 1;
         match self.own_key {
             Some((of, key)) if of == session => self.take_key(session, key),
-            _ => self.put(Output::GrowKey(session)),
+            _ if self.growing == Some(session) => {}
+            _ if !self.may_run(session) => {}
+            _ if matches!(self.stage, Stage::Out) && self.is_left_behind() => {}
+            _ => {
+                self.growing = Some(session);
+                self.put(Output::GrowKey(session));
+            }
         }
     }
 
@@ -226,7 +281,9 @@ impl<C: Core> Sessions<C> {
 
     fn retire(&mut self) {
         if let Some(mut old) = self.old.take() {
-            self.free(&mut old.engine);
+            if let Some(engine) = old.engine() {
+                self.free(engine);
+            }
             self.put(Output::Retired(old.session));
         }
     }

@@ -8,6 +8,9 @@ use crate::tx::{self, Tx, TX_BYTES};
 const IN_SESSION: u8 = 16;
 const ASK: u8 = 17;
 const PART: u8 = 18;
+const ASK_SESSION: u8 = 19;
+const SESSION: u8 = 20;
+const OUT: u8 = 21;
 /// Bytes of batches in one part of a history.
 pub const MAX_PART: usize = 1 << 18;
 const PART_HEAD: usize = 4 + 8 + 32 + 8;
@@ -26,6 +29,18 @@ pub enum SessionFrame {
     Ask(AskHistory),
     /// How a session ended, and some of its batches.
     Part(HistoryPart),
+    /// A replica whose store was made again asks in which session the peer is: a number (8) that it
+    /// drew.
+    AskSession(u64),
+    /// The answer: that number (8), and the session (4).
+    Session {
+        /// The number of the question.
+        drawn: u64,
+        /// The session that comes next here, or runs.
+        session: u32,
+    },
+    /// The sender has no part in this session (4).
+    Out(u32),
 }
 
 /// A replica that is behind asks how a session ended: number (4), position (8), whether (1).
@@ -66,14 +81,18 @@ fn u32_at(data: &[u8], at: usize) -> Option<u32> {
     Some(u32::from_be_bytes(data.get(at..at + 4)?.try_into().ok()?))
 }
 
+fn u64_at(data: &[u8], at: usize) -> Option<u64> {
+    Some(u64::from_be_bytes(data.get(at..at + 8)?.try_into().ok()?))
+}
+
 fn usize_at(data: &[u8], at: usize) -> Option<usize> {
-    usize::try_from(u64::from_be_bytes(data.get(at..at + 8)?.try_into().ok()?)).ok()
+    usize::try_from(u64_at(data, at)?).ok()
 }
 
 impl SessionFrame {
     /// Whether frames of this kind name their session.
     pub const fn has_kind(kind: u8) -> bool {
-        matches!(kind, IN_SESSION | ASK | PART)
+        matches!(kind, IN_SESSION | ASK | PART | ASK_SESSION | SESSION | OUT)
     }
 
     /// The frame of a kind with a payload.
@@ -88,6 +107,11 @@ impl SessionFrame {
             }
             ASK => read_ask(payload).map(SessionFrame::Ask).ok_or(bad),
             PART => read_part(payload).map(SessionFrame::Part).ok_or(bad),
+            ASK_SESSION if payload.len() == 8 => {
+                u64_at(payload, 0).map(SessionFrame::AskSession).ok_or(bad)
+            }
+            SESSION => read_session(payload).ok_or(bad),
+            OUT if payload.len() == 4 => u32_at(payload, 0).map(SessionFrame::Out).ok_or(bad),
             _ => Err(bad),
         }
     }
@@ -103,6 +127,11 @@ impl SessionFrame {
                 encoded(ASK, &data)
             }
             SessionFrame::Part(part) => encoded(PART, &part_bytes(part)),
+            SessionFrame::AskSession(drawn) => encoded(ASK_SESSION, &drawn.to_be_bytes()),
+            SessionFrame::Session { drawn, session } => {
+                encoded(SESSION, &[&drawn.to_be_bytes()[..], &session.to_be_bytes()].concat())
+            }
+            SessionFrame::Out(session) => encoded(OUT, &session.to_be_bytes()),
         }
     }
 }
@@ -131,6 +160,12 @@ fn read_ask(data: &[u8]) -> Option<AskHistory> {
     is_whole.then_some(())?;
     let (session, from) = (u32_at(data, 0)?, usize_at(data, 4)?);
     Some(AskHistory { session, from, wants_batches: data[12] == 1 })
+}
+
+fn read_session(data: &[u8]) -> Option<SessionFrame> {
+    let is_whole = data.len() == 12;
+    is_whole.then_some(())?;
+    Some(SessionFrame::Session { drawn: u64_at(data, 0)?, session: u32_at(data, 8)? })
 }
 
 fn part_bytes(part: &HistoryPart) -> Vec<u8> {
@@ -190,6 +225,9 @@ mod tests {
             SessionFrame::Ask(AskHistory { session: 1, from: 5, wants_batches: true }),
             SessionFrame::Part(part(Vec::new())),
             SessionFrame::Part(part(vec![vec![tx; 2], vec![], vec![tx]])),
+            SessionFrame::AskSession(u64::MAX - 1),
+            SessionFrame::Session { drawn: 1 << 60, session: 9 },
+            SessionFrame::Out(1 << 20),
         ] {
             let data = frame.encode();
             assert_eq!(data.len(), 4 + u32_at(&data, 0).unwrap() as usize);
@@ -207,6 +245,12 @@ mod tests {
             let data = whole.slice(..whole.len() - cut);
             assert!(read(&data).is_err(), "{cut}");
         }
+        let session = SessionFrame::Session { drawn: 7, session: 1 };
+        for frame in [SessionFrame::AskSession(7), session, SessionFrame::Out(7)] {
+            let data = frame.encode();
+            assert!(read(&data.slice(..data.len() - 1)).is_err());
+            assert!(read(&[&data[..], &[0]].concat().into()).is_err());
+        }
         assert!(read(&Frame::Blocks(7).encode()).is_err());
         assert!(read(&in_session(1, &Bytes::from_static(&[0, 0, 0, 1, 9]))).is_err());
     }
@@ -214,7 +258,7 @@ mod tests {
     #[test]
     fn a_part_is_bounded() {
         let batch = vec![Tx { client: 1, number: 2, payload: 3 }; 10_000];
-        assert_eq!(fitting(std::iter::repeat(batch.clone()).take(9)).len(), 1);
-        assert_eq!(fitting(std::iter::repeat(batch[..1000].to_vec()).take(99)).len(), 16);
+        assert_eq!(fitting(std::iter::repeat_n(batch.clone(), 9)).len(), 1);
+        assert_eq!(fitting(std::iter::repeat_n(batch[..1000].to_vec(), 99)).len(), 16);
     }
 }

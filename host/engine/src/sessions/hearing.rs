@@ -7,9 +7,11 @@ use themis::{Error, Receipt};
 use crate::core::Core;
 use crate::engine;
 use crate::frame::Frame;
+use crate::guards::is_fit;
 use crate::sessions::behind::{Asked, Behind};
 use crate::sessions::frames::{AskHistory, HistoryPart, SessionFrame};
 use crate::sessions::keys::announcement;
+use crate::sessions::old::Old;
 use crate::sessions::peers::Early;
 use crate::sessions::service::{Sessions, Stage};
 use crate::sessions::{Output, Read};
@@ -36,6 +38,9 @@ impl<C: Core> Sessions<C> {
             }
             SessionFrame::Ask(ask) => self.hear_ask(peer, ask, now),
             SessionFrame::Part(part) => self.hear_part(peer, part, now)?,
+            SessionFrame::AskSession(drawn) => self.hear_session_asked(peer, drawn, now),
+            SessionFrame::Session { drawn, session } => self.hear_session(peer, drawn, session),
+            SessionFrame::Out(session) => self.hear_out(peer, session),
         }
         self.put(Output::Freed(peer, 1));
         Ok(())
@@ -61,11 +66,12 @@ impl<C: Core> Sessions<C> {
                 return engine.take(engine::Input::Frame { peer, frame, room }, now);
             }
         }
-        if let Some(old) = self.old.as_mut().filter(|it| it.session == session && !is_receipts) {
-            return old.engine.take(engine::Input::Frame { peer, frame, room }, now);
+        let old = self.old.as_mut().filter(|it| it.session == session && !is_receipts);
+        if let Some(engine) = old.and_then(Old::engine) {
+            return engine.take(engine::Input::Frame { peer, frame, room }, now);
         }
         let mut freed = 1;
-        if self.awaited() == Some(session) {
+        if self.awaited() == Some(session) && self.may_wait(peer, &frame) {
             freed = self.early.put(peer, session, frame, room);
         }
         if freed > 0 {
@@ -74,12 +80,21 @@ impl<C: Core> Sessions<C> {
         Ok(())
     }
 
+    /// Whether a frame is worth a place among those that wait: one that no honest peer sends would push
+    /// out one that the session needs.
+    fn may_wait(&self, peer: u32, frame: &Frame) -> bool {
+        match frame {
+            Frame::Message(data) => is_fit(&self.place, peer, data),
+            _ => true,
+        }
+    }
+
     /// The session whose frames wait until it runs here.
     fn awaited(&self) -> Option<u32> {
         match self.stage {
             Stage::Running(_) | Stage::Storing => Some(self.history.session + 1),
             Stage::Recovering | Stage::Opening | Stage::Marking(_) => Some(self.history.session),
-            Stage::Out => None,
+            Stage::Out | Stage::Returning(_) => None,
         }
     }
 
@@ -140,31 +155,58 @@ impl<C: Core> Sessions<C> {
                 now.since(self.progress_at) > BEHIND_AFTER
             }
             Stage::Out => true,
-            Stage::Recovering | Stage::Storing | Stage::Opening | Stage::Marking(_) => false,
+            Stage::Returning(_)
+            | Stage::Recovering
+            | Stage::Storing
+            | Stage::Opening
+            | Stage::Marking(_) => false,
         };
-        let ahead: Vec<u32> = self.peers.after(session).collect();
-        if !is_stuck || ahead.len() <= self.place.f as usize {
+        if !is_stuck || !self.is_left_behind() {
             self.behind = None;
             return;
         }
+        let ahead: Vec<u32> = self.peers.after(session).collect();
         let (first, digest, f) = (self.history.position, self.history.digest, self.place.f);
         let behind = self.behind.get_or_insert_with(|| Behind::new(session, first, digest, f));
         let asked = behind.step(&ahead, now);
         self.ask(asked);
     }
 
-    /// A replica without part in the session announces its next key by receipts alone: its peers let
-    /// them arrive.
+    /// Whether more than f peers are in a later session, and so an honest one.
+    pub(super) fn is_left_behind(&self) -> bool {
+        self.peers.count_after(self.history.session) > self.place.f
+    }
+
+    /// A peer has no part in a session, though it may have a key there.
+    fn hear_out(&mut self, peer: u32, session: u32) {
+        self.peers.hear(peer, session);
+        if let (Stage::Running(engine), true) = (&mut self.stage, session == self.history.session) {
+            engine.let_in(peer);
+        }
+    }
+
+    /// A replica without part in the session says so, and announces its next key by receipts alone: its
+    /// peers let them arrive. One that takes the history of many sessions does so once it is in that
+    /// of the others.
     pub(super) fn announce_from_outside(&mut self, now: Time) {
-        let (Stage::Out, Some((of, key))) = (&self.stage, self.own_key) else { return };
         let session = self.history.session;
-        if of != session + 1 || now.since(self.announced_at) < ANNOUNCE_EVERY {
+        if !matches!(self.stage, Stage::Out) || self.is_left_behind() {
+            return;
+        }
+        let key = self.own_key.filter(|(of, _)| *of == session + 1);
+        if key.is_none() {
+            self.grow_key();
+        }
+        if now.since(self.announced_at) < ANNOUNCE_EVERY {
             return;
         }
         self.announced_at = now;
-        let txs = announcement(self.place.me, of, &key);
-        let receipts = txs.into_iter().map(|tx| Receipt { tx, stamp: 1 }).collect();
-        let frame = Frame::Receipts { clock: 0, receipts };
-        self.put(Output::Broadcast(SessionFrame::In { session, frame }.encode()));
+        if let Some((of, key)) = key.filter(|(of, _)| self.may_run(*of)) {
+            let txs = announcement(self.place.me, of, &key);
+            let receipts = txs.into_iter().map(|tx| Receipt { tx, stamp: 1 }).collect();
+            let frame = Frame::Receipts { clock: 0, receipts };
+            self.put(Output::Broadcast(SessionFrame::In { session, frame }.encode()));
+        }
+        self.put(Output::Broadcast(SessionFrame::Out(session).encode()));
     }
 }

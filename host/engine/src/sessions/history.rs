@@ -81,4 +81,21 @@ pub struct Restart {
     /// The public keys of the session before, if its log was marked as opened and is not given up:
     /// others may need it.
     pub helped: Option<PublicKeys>,
+    /// The store was lost once, and made again.
+    pub made_again: Option<MadeAgain>,
+}
+
+/// What a store that was made again knows of the one that was lost.
+#[derive(Clone, Copy, Debug, PartialEq, Eq)]
+pub enum MadeAgain {
+    /// Nothing yet: the peers are asked. A number that is drawn at each start binds their answers.
+    Unknown {
+        /// The number.
+        drawn: u64,
+    },
+    /// The replica may have sealed in the sessions up to this one, and sits them out.
+    SitsOut {
+        /// The last of them.
+        through: u32,
+    },
 }

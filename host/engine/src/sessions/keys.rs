@@ -12,6 +12,11 @@ pub type PublicKey = [u8; 60];
 /// The public keys of the replicas; none of one that sits the session out.
 pub type PublicKeys = Vec<Option<PublicKey>>;
 
+/// Keys as the library takes them. A replica that sits the session out has none; no seal fits zeros.
+pub fn for_library(keys: &PublicKeys) -> Vec<PublicKey> {
+    keys.iter().map(|it| it.unwrap_or([0; 60])).collect()
+}
+
 const HEAD: usize = 12;
 const PART: usize = 8;
 /// Transactions that announce a key.
@@ -36,6 +41,11 @@ pub fn announced(tx: &Tx, session: u32) -> Option<(u32, usize)> {
     let replica = announcing(tx.client)?;
     let part = tx.number.checked_sub(session.wrapping_mul(NUMBERS))? as usize;
     (part < PARTS).then_some((replica, part))
+}
+
+/// Whether a number is that of a part of a key, of this session or an earlier one.
+pub fn is_past_part(tx: &Tx, session: u32) -> bool {
+    tx.number / NUMBERS <= session && ((tx.number % NUMBERS) as usize) < PARTS
 }
 
 /// What the final batches of a session say of the keys of the next one.
@@ -85,9 +95,14 @@ impl AgreedKeys {
         self.parts.iter().map(key).collect()
     }
 
+    /// Whether the key of a replica is agreed.
+    pub fn has(&self, replica: u32) -> bool {
+        self.parts.get(replica as usize).is_some_and(|it| it.iter().all(Option::is_some))
+    }
+
     /// How many keys are agreed.
     pub fn count(&self) -> u32 {
-        self.parts.iter().filter(|it| it.iter().all(Option::is_some)).count() as u32
+        (0..self.parts.len() as u32).filter(|it| self.has(*it)).count() as u32
     }
 }
 

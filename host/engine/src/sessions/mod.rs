@@ -5,7 +5,10 @@
 //! each is safe.
 
 mod behind;
+mod between;
 mod change;
+pub mod doubles;
+mod ending;
 pub mod frames;
 mod hearing;
 pub mod history;
@@ -14,6 +17,7 @@ mod old;
 mod peers;
 pub mod requests;
 pub mod reserved;
+mod returning;
 pub mod running;
 pub mod secret;
 mod service;
@@ -25,12 +29,14 @@ use crate::clients::{Answer, Ticket};
 use crate::intake::Note;
 use crate::turns::Pending;
 use crate::tx::Tx;
+pub use ending::NotEnded;
 pub use service::Sessions;
 pub use status::Status;
 
+use doubles::{Search, Searched};
 use frames::{End, SessionFrame};
-use keys::PublicKey;
-use requests::{Mark, Marked, OpenLog, Opened, Recover, Recovered, Store, Stored};
+use keys::{PublicKey, PublicKeys};
+use requests::{Mark, Marked, OpenLog, Opened, Recover, Recovered, SatOut, SitOut, Store, Stored};
 
 /// What happened.
 #[derive(Debug)]
@@ -55,8 +61,6 @@ pub enum Input<C> {
     },
     /// The client of a submission has gone.
     Gone(Ticket),
-    /// The operator wants the session to end.
-    EndSession,
     /// The own public key of a session, as [`Output::GrowKey`] asked for it.
     Key {
         /// The session.
@@ -66,6 +70,8 @@ pub enum Input<C> {
     },
     /// The answer to [`Output::Read`].
     Found(Found),
+    /// The answer to [`Output::Search`].
+    Searched(Searched),
     /// The answer to [`Output::Store`].
     Stored(Stored),
     /// The answer to [`Output::OpenLog`].
@@ -74,6 +80,8 @@ pub enum Input<C> {
     Marked(Marked),
     /// The answer to [`Output::Recover`].
     Recovered(Recovered<C>),
+    /// The answer to [`Output::SitOut`].
+    SatOut(SatOut),
 }
 
 /// What is to be done.
@@ -106,8 +114,13 @@ pub enum Output {
     /// Make the own public key of a session from the master secret. It takes a moment, and may be
     /// done aside.
     GrowKey(u32),
+    /// Open the core of the next session ahead, and make its log, if that helps: the first seal of a
+    /// core takes long. These are the keys with which [`Output::OpenLog`] will come.
+    OpenAhead(u32, PublicKeys),
     /// Read how a session ended, for a peer that is behind.
     Read(Read),
+    /// Search the store for transactions.
+    Search(Search),
     /// Store how a session ended.
     Store(Store),
     /// Make the log of the next session.
@@ -116,6 +129,8 @@ pub enum Output {
     Mark(Mark),
     /// Open a log that was marked.
     Recover(Recover),
+    /// Store which sessions this replica sits out, after its store was lost.
+    SitOut(SitOut),
     /// No replica needs the log of this session any more: do not open it again.
     Retired(u32),
 }

@@ -32,6 +32,11 @@ impl PeerSessions {
         numbered.filter(move |(_, of)| **of > Some(session)).map(|(peer, _)| peer)
     }
 
+    /// Whether a peer was heard, and in no session after this one.
+    pub fn is_any_within(&self, session: u32) -> bool {
+        self.of.iter().flatten().any(|it| *it <= session)
+    }
+
     /// How many peers are in a session after this one.
     pub fn count_after(&self, session: u32) -> u32 {
         self.after(session).count() as u32
@@ -97,6 +102,7 @@ mod tests {
         peers.hear(2, 4);
         assert_eq!(peers.after(3).collect::<Vec<_>>(), [1, 2]);
         assert_eq!((peers.count_after(4), peers.count_after(5)), (1, 0));
+        assert!(peers.is_any_within(4) && !peers.is_any_within(3));
     }
 
     #[test]

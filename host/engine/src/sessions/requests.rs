@@ -11,6 +11,7 @@
 //! | [`OpenLog`] | makes the log of the session: header, sync of file and folder. One that is there without a record, whole or torn, is made again | [`Opened`] |
 //! | [`Mark`] | one durable transaction: the log of the session was opened | [`Marked`] |
 //! | [`Recover`] | opens a log that was marked. Where it is missing, it is lost | [`Recovered`] |
+//! | [`SitOut`] | one durable transaction: which sessions the replica sits out, as its store was lost | [`SatOut`] |
 
 use std::sync::Arc;
 
@@ -137,7 +138,7 @@ impl Recover {
         Recovered { session: self.session, core: Some((core, log, header)) }
     }
 
-    /// The log is missing, or shorter than its header: it was lost, and is never made again.
+    /// The log is missing, or shorter than its beginning: it was lost, and is never made again.
     pub fn lost<C>(self) -> Recovered<C> {
         Recovered { session: self.session, core: None }
     }
@@ -148,4 +149,29 @@ impl Recover {
 pub struct Recovered<C> {
     pub(super) session: u32,
     pub(super) core: Option<(C, Vec<u8>, usize)>,
+}
+
+/// Store which sessions are sat out: the replica may have sealed there before its store was lost.
+#[derive(Debug)]
+#[must_use = "no log is opened before this is durable"]
+pub struct SitOut {
+    pub(super) through: u32,
+}
+
+impl SitOut {
+    /// The last of these sessions.
+    pub fn through(&self) -> u32 {
+        self.through
+    }
+
+    /// It is durable.
+    pub fn stored(self) -> SatOut {
+        SatOut { through: self.through }
+    }
+}
+
+/// It is durable which sessions are sat out.
+#[derive(Debug)]
+pub struct SatOut {
+    pub(super) through: u32,
 }

@@ -7,9 +7,12 @@ use std::time::Duration;
 use themis::{Error, Receipt, Standing, Tx};
 
 use crate::core::Desk;
+use crate::sessions::doubles::{Doubles, Search, Searched};
 use crate::sessions::history::History;
-use crate::sessions::keys::{announced, announcement, AgreedKeys, PublicKey, PublicKeys, PARTS};
-use crate::sessions::reserved::{is_reserved, marker};
+use crate::sessions::keys::{
+    announced, announcement, is_past_part, AgreedKeys, PublicKey, PublicKeys, PARTS,
+};
+use crate::sessions::reserved::{announcing, is_reserved, marker};
 use crate::setting::Place;
 use crate::time::Time;
 use crate::window::{Check, Windows};
@@ -17,6 +20,11 @@ use crate::window::{Check, Windows};
 /// Once the session may end, for so long the keys of all replicas are waited for. Then those of a
 /// quorum are enough.
 const KEY_PATIENCE: Duration = Duration::from_secs(5);
+/// A session in which a replica has no part lasts for so long at least. Then it ends for that replica,
+/// which counts among the f meanwhile, once its next key is agreed.
+const REJOIN_AFTER: Duration = Duration::from_secs(60);
+/// Parts of keys of earlier sessions that are taken from one peer in a session.
+const MAX_STALE: usize = 8 * PARTS;
 /// Of the transactions that may arrive in a session; the session ends above three quarters of them.
 pub const MAX_TAKEN: usize = 61_440;
 
@@ -37,12 +45,22 @@ pub struct Session {
     direct: Vec<Tx>,
     /// Of each replica, which parts of its next key it has reported.
     reported: Vec<[bool; PARTS]>,
+    /// Of each peer, how many parts of keys of earlier sessions were taken from it.
+    stale: Vec<usize>,
+    /// Receipts of transactions whose number is final.
+    doubles: Doubles,
     /// Receipts of the service's transactions, by peer, until the transaction is received here.
     heard: BTreeMap<Tx, Vec<(u32, u64)>>,
     /// Which peers have reported that they received the marker: bit i for replica i.
     marked_by: u16,
     is_end_wanted: bool,
     due_since: Option<Time>,
+    /// A replica has no key in this session.
+    lacks_a_replica: bool,
+    /// Replicas that say that they have no part in it: bit i for replica i.
+    out: u16,
+    /// When the end was first thought of.
+    began: Option<Time>,
 }
 
 /// How far a session is used up.
@@ -69,10 +87,15 @@ impl Session {
             agreed: AgreedKeys::new(place.n, number + 1, known),
             direct: Vec::new(),
             reported: vec![[false; PARTS]; place.n as usize],
+            stale: vec![0; place.n as usize],
+            doubles: Doubles::new(place.n),
             heard: BTreeMap::new(),
             marked_by: 0,
             is_end_wanted: false,
             due_since: None,
+            lacks_a_replica: history.keys.iter().any(Option::is_none),
+            out: 0,
+            began: None,
         }
     }
 
@@ -133,6 +156,11 @@ impl Session {
         self.is_end_wanted = true;
     }
 
+    /// A peer says that it has no part in this session.
+    pub fn let_in(&mut self, peer: u32) {
+        self.out |= 1 << peer;
+    }
+
     /// The own public key of the next session is to be announced.
     pub fn announce(&mut self, key: &PublicKey) {
         let txs = announcement(self.place.me, self.number + 1, key);
@@ -141,7 +169,8 @@ impl Session {
 
     /// The receipts of a peer that go to the library. Those of the service's own transactions are
     /// taken apart: a part of a key only from its replica itself, and the marker from no peer alone.
-    /// What is new here is taken only if its client's window allows it.
+    /// What is new here is taken only if its client's window allows it. If its number is final, the
+    /// store is asked first whether it is final itself.
     pub fn sift(
         &mut self,
         desk: &mut impl Desk,
@@ -151,14 +180,65 @@ impl Session {
         let mut out = Vec::with_capacity(receipts.len());
         for it in receipts {
             if is_reserved(it.tx.client) {
+                if self.is_stale(&it.tx) && desk.standing(&it.tx)? == Standing::Unknown {
+                    self.take_stale(peer, it);
+                }
                 self.hear_service(peer, it);
-            } else if self.windows.check(&it.tx) == Check::New
-                || desk.standing(&it.tx)? != Standing::Unknown
-            {
-                out.push(it);
+                continue;
+            }
+            match self.windows.check(&it.tx) {
+                Check::New => out.push(it),
+                _ if desk.standing(&it.tx)? != Standing::Unknown => out.push(it),
+                Check::Repeat | Check::BelowWindow => self.doubles.put(peer, it),
+                Check::TooFarAhead | Check::TooManyClients | Check::Reserved => {}
             }
         }
         Ok(out)
+    }
+
+    /// What the store is asked now.
+    pub fn search(&mut self, now: Time) -> Option<Search> {
+        self.doubles.search(self.number, now)
+    }
+
+    /// Receipts that go to the library after all: their transactions are not final.
+    pub fn take_searched(&mut self, searched: Searched) -> Vec<(u32, Receipt)> {
+        let mut out = Vec::new();
+        for (peer, it) in searched.open_in(self.number) {
+            if is_reserved(it.tx.client) {
+                self.put_stale(peer, it.tx);
+            } else {
+                out.push((peer, it));
+            }
+        }
+        out
+    }
+
+    /// Whether it announces a key of this or an earlier session. It came too late: the marker had
+    /// arrived almost everywhere; or it is another value of a part. Now it says nothing; but where it
+    /// has arrived it is carried over until it is final, and takes up a place.
+    fn is_stale(&self, tx: &Tx) -> bool {
+        let is_of_replica = announcing(tx.client).is_some_and(|it| it < self.place.n);
+        is_of_replica && is_past_part(tx, self.number)
+    }
+
+    /// One that is not final is taken. Where the window does not say that it is not, the store does.
+    fn take_stale(&mut self, peer: u32, it: Receipt) {
+        if self.windows.is_open(&it.tx) {
+            self.put_stale(peer, it.tx);
+        } else {
+            self.doubles.put(peer, it);
+        }
+    }
+
+    /// Such a part is taken from any peer, so that it arrives everywhere and becomes final; few of
+    /// each peer, since a faulty one can make some up.
+    fn put_stale(&mut self, peer: u32, tx: Tx) {
+        let Some(count) = self.stale.get_mut(peer as usize) else { return };
+        if *count < MAX_STALE && !self.direct.contains(&tx) {
+            *count += 1;
+            self.direct.push(tx);
+        }
     }
 
     fn hear_service(&mut self, peer: u32, it: Receipt) {
@@ -232,10 +312,16 @@ impl Session {
     }
 
     /// Whether the marker is to arrive: the session is used up by half, or its operator wants that,
-    /// and enough keys are agreed; or more than f peers have received it.
+    /// and enough keys are agreed; or a replica that has no part in it can have one in the next; or
+    /// more than f peers have received it.
     fn is_due(&mut self, used: Used, now: Time) -> bool {
         let Place { n, f, views, .. } = self.place;
         if self.marked_by.count_ones() > f {
+            return true;
+        }
+        let age = now.since(*self.began.get_or_insert(now));
+        let count = self.agreed.count();
+        if age > REJOIN_AFTER && self.can_let_others_in(count) {
             return true;
         }
         let is_used = used.commit > views / 2 || used.arrived > MAX_TAKEN / 4 * 3;
@@ -244,8 +330,18 @@ impl Session {
         }
         let since = *self.due_since.get_or_insert(now);
         let is_late = now.since(since) > KEY_PATIENCE || used.commit > views / 4 * 3;
-        let count = self.agreed.count();
         count == n || is_late && count >= self.place.quorum()
+    }
+
+    /// Whether a replica has no part in this session, and could have one in the next: its own key is
+    /// agreed; or it is here, and those of all others are. One that lost its store may have to sit out
+    /// the next session too, and announces no key for it.
+    fn can_let_others_in(&self, count: u32) -> bool {
+        let Place { n, .. } = self.place;
+        let is_out = |it: &u32| self.out >> *it & 1 == 1;
+        let has_all_others = (0..n).filter(|it| !is_out(it)).all(|it| self.agreed.has(it));
+        self.lacks_a_replica && count == n
+            || self.out != 0 && has_all_others && count >= self.place.quorum()
     }
 }
 

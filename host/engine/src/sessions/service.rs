@@ -9,12 +9,15 @@ use crate::clients::{Answer, Clients, Ticket};
 use crate::core::Core;
 use crate::engine::{self, Engine};
 use crate::sessions::behind::Behind;
+use crate::sessions::between::Between;
 use crate::sessions::frames::in_session;
-use crate::sessions::history::{Ended, History, Restart};
+use crate::sessions::history::{Ended, History, MadeAgain, Restart};
 use crate::sessions::keys::{PublicKey, PublicKeys};
-use crate::sessions::old::Old;
+use crate::sessions::old::{Help, Old};
 use crate::sessions::peers::{EarlyFrames, PeerSessions};
 use crate::sessions::requests::{OpenLog, Recover};
+use crate::sessions::returning::Returning;
+use crate::sessions::running::Session;
 use crate::sessions::{Found, Group, Input, Output};
 use crate::setting::{Options, Place};
 use crate::time::Time;
@@ -26,6 +29,8 @@ const LOOK_EVERY: Duration = Duration::from_millis(100);
 /// Where a replica stands in the session that comes next, or runs.
 #[derive(Debug)]
 pub(super) enum Stage<C> {
+    /// Its store was made again: it asks in which session the others are.
+    Returning(Returning),
     /// Its log was marked, and is being opened.
     Recovering,
     /// It runs.
@@ -52,15 +57,24 @@ pub struct Sessions<C> {
     pub(super) early: EarlyFrames,
     /// Peers from which a frame of the session that runs has come: bit i for replica i.
     pub(super) met: u16,
+    /// The sessions up to this one are sat out: the store was lost, and the replica may have sealed
+    /// there.
+    pub(super) sits_out: Option<u32>,
+    /// The session whose key is being made.
+    pub(super) growing: Option<u32>,
     /// The own key that was made last, and its session.
     pub(super) own_key: Option<(u32, PublicKey)>,
     /// Any public key: all have the same head.
     pub(super) known_key: PublicKey,
     pub(super) behind: Option<Behind>,
+    /// The session whose core is opened ahead.
+    ahead: u32,
     /// What was received and has not arrived, between two sessions.
-    pub(super) waiting: Vec<Tx>,
+    pub(super) waiting: Between,
     /// How the session ended, while that is being stored.
     pub(super) ended: Option<Arc<Ended>>,
+    /// The session that is to end as soon as it runs, as its operator wants it.
+    pub(super) to_end: Option<u32>,
     /// Submissions that wait, between two sessions.
     pub(super) clients: Clients,
     /// What the engine that runs had made final when it last got on, and when that was.
@@ -88,10 +102,14 @@ impl<C: Core> Sessions<C> {
             peers: PeerSessions::new(place.n),
             early: EarlyFrames::new(place.n),
             met: 0,
+            sits_out: None,
+            growing: None,
             own_key: None,
             known_key: known_key.unwrap_or([0; 60]),
             behind: None,
-            waiting: Vec::new(),
+            ahead: 0,
+            waiting: Between::default(),
+            to_end: None,
             ended: None,
             clients: Clients::default(),
             progress: (0, 0),
@@ -103,26 +121,35 @@ impl<C: Core> Sessions<C> {
             looked_at: None,
             outputs: Vec::new(),
         };
+        match restart.made_again {
+            Some(MadeAgain::Unknown { drawn }) => {
+                made.stage = Stage::Returning(Returning::new(drawn, place.n, place.f));
+                return made;
+            }
+            Some(MadeAgain::SitsOut { through }) => made.sits_out = Some(through),
+            None => {}
+        }
         if restart.is_opened {
             let (session, keys) = (made.history.session, made.history.keys.clone());
             made.put(Output::Recover(Recover { session, keys }));
         } else {
             made.begin();
         }
-        made.recover_old(restart.helped);
+        made.old = made.helped(restart.helped, now);
         made
     }
 
-    fn recover_old(&mut self, keys: Option<PublicKeys>) {
-        if let (Some(keys), Some(session)) = (keys, self.history.session.checked_sub(1)) {
-            self.put(Output::Recover(Recover { session, keys }));
-        }
+    /// The session before, whose log others may need.
+    fn helped(&self, keys: Option<PublicKeys>, since: Time) -> Option<Old<C>> {
+        let session = self.history.session.checked_sub(1)?;
+        Some(Old { session, help: Help::Log(keys?), since })
     }
 
     /// Starts with the next session: its log first, or without part in it.
     pub(super) fn begin(&mut self) {
         let History { session, keys, .. } = &self.history;
-        if keys.get(self.place.me as usize).is_some_and(Option::is_some) {
+        let has_key = keys.get(self.place.me as usize).is_some_and(Option::is_some);
+        if has_key && self.may_run(*session) {
             let (session, keys) = (*session, keys.clone());
             self.stage = Stage::Opening;
             self.put(Output::OpenLog(OpenLog { session, keys }));
@@ -147,17 +174,18 @@ impl<C: Core> Sessions<C> {
                     engine.take(engine::Input::Gone(ticket), now)?;
                 }
             }
-            Input::EndSession => {
-                if let Stage::Running(engine) = &mut self.stage {
-                    engine.want_end();
-                }
-            }
             Input::Key { session, key } => self.take_key(session, key),
             Input::Found(found) => self.answer_peer(found),
+            Input::Searched(searched) => {
+                if let Stage::Running(engine) = &mut self.stage {
+                    engine.take_searched(searched)?;
+                }
+            }
             Input::Stored(stored) => self.stored(&stored),
             Input::Opened(opened) => self.opened(opened),
             Input::Marked(marked) => self.marked(&marked, now)?,
             Input::Recovered(recovered) => self.recovered(recovered, now)?,
+            Input::SatOut(sat_out) => self.sat_out(&sat_out),
         }
         self.collect(now)
     }
@@ -185,7 +213,7 @@ impl<C: Core> Sessions<C> {
         self.is_old_next = !self.is_old_next;
         for is_old in [self.is_old_next, !self.is_old_next] {
             let found = if is_old {
-                self.old.as_mut().map(|it| (it.session, &mut it.engine))
+                self.old.as_mut().and_then(|it| Some((it.session, it.engine()?)))
             } else if let Stage::Running(engine) = &mut self.stage {
                 Some((self.history.session, engine))
             } else {
@@ -224,12 +252,8 @@ impl<C: Core> Sessions<C> {
     }
 
     /// Whether no event of this session is being made durable or waits for its turn.
-    pub(super) fn is_idle(&self, session: u32) -> bool {
-        let engine = match &self.stage {
-            Stage::Running(engine) if self.history.session == session => Some(engine),
-            _ => self.old.as_ref().filter(|it| it.session == session).map(|it| &it.engine),
-        };
-        self.pending_of != Some(session) && engine.is_none_or(|it| it.is_idle())
+    pub(super) fn is_idle(&mut self, session: u32) -> bool {
+        self.pending_of != Some(session) && self.engine_of(session).is_none_or(|it| it.is_idle())
     }
 
     fn engines(&mut self) -> impl Iterator<Item = &mut Box<Engine<C>>> {
@@ -237,14 +261,14 @@ impl<C: Core> Sessions<C> {
             Stage::Running(engine) => Some(engine),
             _ => None,
         };
-        running.into_iter().chain(self.old.as_mut().map(|it| &mut it.engine))
+        running.into_iter().chain(self.old.as_mut().and_then(Old::engine))
     }
 
     /// The engine of a session.
     pub(super) fn engine_of(&mut self, session: u32) -> Option<&mut Box<Engine<C>>> {
         match &mut self.stage {
             Stage::Running(engine) if self.history.session == session => Some(engine),
-            _ => self.old.as_mut().filter(|it| it.session == session).map(|it| &mut it.engine),
+            _ => self.old.as_mut().filter(|it| it.session == session).and_then(Old::engine),
         }
     }
 
@@ -261,8 +285,8 @@ impl<C: Core> Sessions<C> {
 
     /// Takes the outputs of the engines, and sees whether the session is cut.
     pub(super) fn collect(&mut self, now: Time) -> Result<(), Error> {
-        if let Some(old) = &mut self.old {
-            let (session, outputs) = (old.session, old.engine.outputs());
+        let old = self.old.as_mut().and_then(|it| Some((it.session, it.engine()?.outputs())));
+        if let Some((session, outputs)) = old {
             for output in outputs {
                 // What the old engine makes final is void.
                 if !matches!(output, engine::Output::Batch { .. }) {
@@ -273,7 +297,9 @@ impl<C: Core> Sessions<C> {
         if let Stage::Running(engine) = &mut self.stage {
             let (session, is_cut, outputs) =
                 (self.history.session, engine.is_cut(), engine.outputs());
+            let search = engine.search(now).map(Output::Search);
             outputs.into_iter().for_each(|it| self.pass(session, it));
+            self.outputs.extend(search);
             if is_cut {
                 self.cut(now)?;
             }
@@ -304,18 +330,38 @@ impl<C: Core> Sessions<C> {
         if let Stage::Running(engine) = &self.stage {
             at = at.min(engine.wake_at());
         }
-        if let Some(old) = &self.old {
-            at = at.min(old.engine.wake_at());
+        if let Some(Old { help: Help::Engine(engine), .. }) = &self.old {
+            at = at.min(engine.wake_at());
         }
         at
+    }
+
+    /// The next call of [`Sessions::prepare`] looks at the change of sessions.
+    pub(super) fn look_soon(&mut self) {
+        self.looked_at = None;
     }
 
     fn look(&mut self, now: Time) {
         if self.looked_at.is_none_or(|at| now.since(at) >= LOOK_EVERY) {
             self.looked_at = Some(now);
             self.retire_old(now);
+            self.open_old();
+            self.open_ahead();
+            self.ask_for_session(now);
             self.announce_from_outside(now);
             self.catch_up(now);
+        }
+    }
+
+    /// The keys of the next session do not change once all of them are agreed.
+    fn open_ahead(&mut self) {
+        let next = self.history.session + 1;
+        let Stage::Running(engine) = &self.stage else { return };
+        let keys = engine.session().map(Session::next_keys).unwrap_or_default();
+        let are_agreed = !keys.is_empty() && keys.iter().all(Option::is_some);
+        if self.ahead != next && are_agreed {
+            self.ahead = next;
+            self.put(Output::OpenAhead(next, keys));
         }
     }
 
@@ -329,12 +375,10 @@ impl<C: Core> Sessions<C> {
         if let Stage::Running(engine) = &mut self.stage {
             return engine.take(engine::Input::Submit { ticket, txs }, now);
         }
-        if self.waiting.len() + txs.len() > self.options.max_waiting {
-            self.put(Output::Answer(ticket, Answer::Busy));
-        } else {
-            self.waiting.extend(&txs);
-            let new = txs.len();
-            self.clients.put(ticket, txs, new);
+        let Options { max_waiting, max_of_client, .. } = self.options;
+        match self.waiting.submit(&txs, max_waiting, max_of_client) {
+            Some(new) => self.clients.put(ticket, txs, new),
+            None => self.put(Output::Answer(ticket, Answer::Busy)),
         }
         Ok(())
     }

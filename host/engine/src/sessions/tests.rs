@@ -1,11 +1,15 @@
 //! Sessions over cores that a test plays.
 
+mod doubles;
+mod returning;
+
 use std::collections::VecDeque;
+use std::time::Duration;
 
 use themis::{Error, Message, Reason, Tx};
 
 use super::frames::HistoryPart;
-use super::history::{History, Restart};
+use super::history::{History, MadeAgain, Restart};
 use super::keys::announcement;
 use super::reserved::marker;
 use super::*;
@@ -14,10 +18,17 @@ use crate::frame::{Frame, Standing};
 use crate::intake::played::PlayedDesk;
 use crate::setting::{Options, Place};
 use crate::time::Time;
+use crate::window::Check;
+
+mod ahead;
+mod between;
+mod ending;
+mod help;
 
 const PLACE: Place = Place { me: 0, n: 5, f: 1, views: 100 };
 const KEY: PublicKey = [9; 60];
 const NOW: Time = Time::from_nanos(0);
+const LATER: Duration = Duration::from_secs(1);
 
 /// Each message is a block that makes one more of these batches final.
 #[derive(Debug, Default)]
@@ -26,6 +37,7 @@ struct Played {
     acted: Vec<Event>,
     batches: Vec<Vec<Tx>>,
     finals: usize,
+    sends: Vec<Message>,
     desk: PlayedDesk,
 }
 
@@ -55,7 +67,7 @@ impl Core for Played {
     }
 
     fn sends(&mut self) -> Result<Vec<Message>, Error> {
-        Ok(Vec::new())
+        Ok(std::mem::take(&mut self.sends))
     }
 
     fn batch_count(&mut self) -> Result<usize, Error> {
@@ -84,7 +96,8 @@ fn tx(number: u32) -> Tx {
 }
 
 fn fresh() -> Restart {
-    Restart { history: History::new(vec![Some(KEY); 5]), is_opened: false, helped: None }
+    let history = History::new(vec![Some(KEY); 5]);
+    Restart { history, is_opened: false, helped: None, made_again: None }
 }
 
 fn opened(restart: Restart) -> Sessions<Played> {
@@ -155,16 +168,21 @@ fn running(core: Played) -> Sessions<Played> {
     it
 }
 
+/// Peers report their clocks, so receipts are stamped.
+fn open_intake(it: &mut Sessions<Played>, session: u32) {
+    for peer in 1..4 {
+        let frame = Frame::Receipts { clock: 0, receipts: Vec::new() };
+        hear(it, peer, SessionFrame::In { session, frame }, NOW);
+    }
+}
+
 /// One whose first session is cut, and to which a transaction has come that is carried over.
 fn cut() -> Sessions<Played> {
     let mut batches = batches_to_the_cut(0);
     batches.push(vec![tx(9)]); // void
     let mut it = running(core_with(&batches));
     it.take(Input::Submit { ticket: 1, txs: vec![tx(2), tx(3)] }, NOW).unwrap();
-    for peer in 1..4 {
-        let frame = Frame::Receipts { clock: 0, receipts: Vec::new() };
-        hear(&mut it, peer, SessionFrame::In { session: 0, frame }, NOW);
-    }
+    open_intake(&mut it, 0);
     it.outputs();
     (0..3).for_each(|_| hear(&mut it, 1, vote(1, 0), NOW));
     it
@@ -193,6 +211,48 @@ fn each_step_of_a_change_waits_for_the_one_before() {
     assert_eq!(engine.core_mut().acted[0], Event::Arrived(vec![tx(3)]));
 }
 
+/// One of the transactions of a submission is final when the session changes, and the other one
+/// arrives in the next session, which does not know the first.
+#[test]
+fn a_submission_over_a_change_of_session_is_answered() {
+    let mut it = cut();
+    let Output::Store(store) = only(steps(&mut it)) else { panic!() };
+    it.take(Input::Submit { ticket: 9, txs: vec![tx(1), tx(6)] }, NOW).unwrap();
+    it.take(Input::Stored(store.stored()), NOW).unwrap();
+    open_log(&mut it, Played::default());
+    mark(&mut it);
+    open_intake(&mut it, 1);
+    work(&mut it, NOW + LATER);
+    let ok = Answer::Ok { new: 2, old: 0 };
+    let is_answer = |it: &Output| matches!(it, Output::Answer(9, answer) if *answer == ok);
+    assert!(it.outputs().iter().any(is_answer));
+}
+
+/// A client uses a number twice: one of the two is final when the session changes, and the other
+/// waits. No peer would take that one any more, so it does not wait on.
+#[test]
+fn what_waits_is_asked_by_the_windows_of_the_next_session() {
+    let mut it = cut();
+    let Output::Store(store) = only(steps(&mut it)) else { panic!() };
+    let other = Tx { payload: 5, ..tx(2) };
+    it.take(Input::Submit { ticket: 7, txs: vec![tx(4)] }, NOW).unwrap();
+    it.take(Input::Submit { ticket: 8, txs: vec![tx(5), other] }, NOW).unwrap();
+    it.take(Input::Stored(store.stored()), NOW).unwrap();
+    open_log(&mut it, Played::default());
+    mark(&mut it);
+    assert_eq!(answers(&mut it), [(8, Answer::Refused(other, Check::BelowWindow))]);
+    open_intake(&mut it, 1);
+    work(&mut it, NOW + LATER);
+    assert_eq!(arrived(&mut it), [tx(3), tx(4), tx(5)]);
+}
+
+/// What arrived in the session that runs.
+fn arrived(it: &mut Sessions<Played>) -> Vec<Tx> {
+    let acted = &it.running().unwrap().core_mut().acted;
+    let lists = acted.iter().map(|it| if let Event::Arrived(txs) = it { txs } else { &[][..] });
+    lists.flatten().copied().collect()
+}
+
 #[test]
 fn what_comes_after_the_marker_is_void() {
     let mut it = cut();
@@ -212,21 +272,11 @@ fn a_start_goes_on_where_the_store_says() {
     let mut history = History::new(vec![Some(KEY); 5]);
     let Output::Store(store) = only(steps(&mut cut())) else { panic!() };
     history.extend(store.ended());
-    let restart = |is_opened, helped| Restart { history: history.clone(), is_opened, helped };
     // It was stored, and its log may be there or not.
-    let mut it = opened(restart(false, None));
-    open_log(&mut it, Played::default());
+    let stored = Restart { history: history.clone(), ..fresh() };
+    open_log(&mut opened(stored), Played::default());
     // It was marked.
-    let mut it = opened(restart(true, Some(vec![Some(KEY); 5])));
-    let mut asked = steps(&mut it);
-    let sessions: Vec<u32> = asked
-        .iter()
-        .filter_map(|it| if let Output::Recover(it) = it { Some(it.session()) } else { None })
-        .collect();
-    assert_eq!(sessions, [1, 0]);
-    let Output::Recover(recover) = asked.remove(0) else { panic!() };
-    let core = Played::default();
-    it.take(Input::Recovered(recover.recovered(core, Vec::new(), 0)), NOW).unwrap();
+    let mut it = help::started(history);
     work(&mut it, NOW);
     assert_eq!(it.running().unwrap().core_mut().acted[0], Event::Arrived(vec![tx(3)]));
 }
@@ -235,7 +285,7 @@ fn a_start_goes_on_where_the_store_says() {
 fn a_lost_log_is_not_made_again() {
     let mut history = History::new(vec![Some(KEY); 5]);
     history.session = 4;
-    let mut it = opened(Restart { history, is_opened: true, helped: None });
+    let mut it = opened(Restart { history, is_opened: true, ..fresh() });
     let Output::Recover(recover) = only(steps(&mut it)) else { panic!() };
     it.take(Input::Recovered(recover.lost()), NOW).unwrap();
     work(&mut it, NOW);
@@ -248,7 +298,7 @@ fn one_without_a_key_sits_out_announces_the_next_one_and_takes_the_history() {
     let mut history = History::new(vec![Some(KEY); 5]);
     (history.session, history.keys[0]) = (1, None);
     history.carried = vec![tx(2), tx(3)];
-    let mut it = opened(Restart { history, is_opened: false, helped: None });
+    let mut it = opened(Restart { history, ..fresh() });
     let grow = |it: &Output| matches!(it, Output::GrowKey(2));
     assert!(it.outputs().iter().any(grow));
     it.take(Input::Key { session: 2, key: KEY }, NOW).unwrap();
@@ -298,23 +348,6 @@ fn asked_of(it: &mut Sessions<Played>) -> Vec<u32> {
 }
 
 #[test]
-fn the_engine_of_the_session_before_goes_once_all_are_in_the_next() {
-    let mut it = cut();
-    let Output::Store(store) = only(steps(&mut it)) else { panic!() };
-    it.take(Input::Stored(store.stored()), NOW).unwrap();
-    open_log(&mut it, Played::default());
-    mark(&mut it);
-    let retired =
-        |it: &mut Sessions<Played>| it.outputs().iter().any(|it| matches!(it, Output::Retired(0)));
-    (1..4).for_each(|peer| hear(&mut it, peer, status(1), NOW));
-    let later = NOW + std::time::Duration::from_secs(1);
-    work(&mut it, later);
-    assert!(!retired(&mut it) && it.status(NOW).helps);
-    hear(&mut it, 4, status(1), later + std::time::Duration::from_secs(1));
-    assert!(retired(&mut it) && !it.status(NOW).helps);
-}
-
-#[test]
 fn frames_of_the_next_session_wait_for_it() {
     let mut it = cut();
     hear(&mut it, 2, vote(2, 1), NOW);
@@ -325,6 +358,47 @@ fn frames_of_the_next_session_wait_for_it() {
     work(&mut it, NOW);
     let acted = &it.running().unwrap().core_mut().acted;
     assert!(acted.iter().any(|it| matches!(it, Event::Delivered(_))));
+}
+
+/// What no honest peer sends takes no place of what the next session needs.
+#[test]
+fn frames_that_no_honest_peer_sends_wait_for_no_session() {
+    let mut it = cut();
+    hear(&mut it, 2, vote(2, 1), NOW);
+    for _ in 0..40 {
+        hear(&mut it, 2, vote(3, 1), NOW); // it names another sender
+    }
+    let Output::Store(store) = only(steps(&mut it)) else { panic!() };
+    it.take(Input::Stored(store.stored()), NOW).unwrap();
+    open_log(&mut it, Played::default());
+    mark(&mut it);
+    work(&mut it, NOW);
+    let acted = &it.running().unwrap().core_mut().acted;
+    assert!(acted.iter().any(|it| matches!(it, Event::Delivered(_))));
+}
+
+/// The next session takes it.
+#[test]
+fn where_sessions_follow_one_another_none_is_over_for_clients() {
+    let mut it = running(core_with(&[]));
+    it.take(Input::Submit { ticket: 3, txs: vec![tx(1)] }, NOW).unwrap();
+    for peer in 1..4 {
+        let frame = Frame::Status(Standing { view: PLACE.views, ..Standing::default() });
+        hear(&mut it, peer, SessionFrame::In { session: 0, frame }, NOW);
+    }
+    assert!(it.running().unwrap().is_over());
+    it.take(Input::Submit { ticket: 4, txs: vec![tx(2)] }, NOW).unwrap();
+    work(&mut it, NOW);
+    assert_eq!(answers(&mut it), [(4, Answer::Busy)]);
+}
+
+/// What clients heard.
+fn answers(it: &mut Sessions<Played>) -> Vec<(Ticket, Answer)> {
+    let answers = it.outputs().into_iter().filter_map(|it| match it {
+        Output::Answer(ticket, answer) => Some((ticket, answer)),
+        _ => None,
+    });
+    answers.collect()
 }
 
 #[test]

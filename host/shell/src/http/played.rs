@@ -102,8 +102,12 @@ pub struct Port {
 
 impl Port {
     pub fn new(played: Played) -> Port {
+        Port::over(played, Batches::new())
+    }
+
+    pub fn over(played: Played, batches: Batches) -> Port {
         let (inbox, requests) = Inbox::new();
-        let (played, batches) = (Arc::new(played), Arc::new(Batches::new()));
+        let (played, batches) = (Arc::new(played), Arc::new(batches));
         tokio::spawn(played.clone().run(requests));
         let site = Site::new(inbox, batches.clone(), Some(3));
         Port { played, batches, site, connections: Connections::new(), who: Identity::Client(1) }

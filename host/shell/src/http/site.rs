@@ -4,6 +4,7 @@ use std::io;
 use std::sync::Arc;
 use std::time::Duration;
 
+use themis_engine::tx::Tx;
 use tokio::sync::{oneshot, watch};
 use tokio::time::timeout;
 
@@ -43,6 +44,12 @@ impl Site {
     /// Some final batches from a position on, each as a line of the line protocol.
     pub(super) async fn lines(&self, from: usize, most: usize) -> io::Result<Vec<Arc<str>>> {
         self.batches.from(from, most).await
+    }
+
+    /// The position of a transaction of a session that has ended.
+    pub(super) async fn stored_position(&self, tx: Tx) -> Result<Option<usize>, Refusal> {
+        let found = timeout(ANSWER_WITHIN, self.batches.position_of(tx)).await;
+        found.ok().and_then(Result::ok).ok_or(Refusal::NoStore)
     }
 
     /// Changes with each batch.

@@ -68,6 +68,19 @@ async fn transactions_are_submitted() {
     assert!(start.elapsed() >= 60_000 * MS);
 }
 
+/// Only this request is refused.
+#[tokio::test(flavor = "current_thread")]
+async fn a_transaction_of_a_store_that_cant_be_read() {
+    let folder = std::env::temp_dir().join(format!("themisd-find-{}", std::process::id()));
+    std::fs::create_dir_all(&folder).unwrap();
+    let port = Port::over(Played::default(), crate::batches::tests::damaged(&folder));
+    let (status, body) = port.get("/v1/transactions/1.0.0").await;
+    assert!(status == 500 && body.contains("the store can't be read"), "{status} {body}");
+    let (status, body) = port.get("/v1/transactions/1.3.0").await;
+    assert!(status == 200 && body.contains("\"position\":5"), "{status} {body}");
+    std::fs::remove_dir_all(folder).unwrap();
+}
+
 #[tokio::test(flavor = "current_thread", start_paused = true)]
 async fn a_client_that_goes_is_forgotten() {
     let port = Port::new(Played::default());

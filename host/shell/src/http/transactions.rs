@@ -72,10 +72,14 @@ fn tx_of(text: &str) -> Result<Tx, Refusal> {
     tx::parse(text).ok_or_else(|| Refusal::Bad(format!("no transaction: {text:.60}")))
 }
 
-/// What has become of a transaction.
+/// What has become of a transaction. The engine is asked first: what leaves its memory is in the store
+/// then.
 pub async fn find(site: &Site, text: &str) -> Result<Answer, Refusal> {
     let tx = tx_of(text)?;
-    let found = site.ask(|answer| input::Request::Find { tx, answer }).await?;
+    let mut found = site.ask(|answer| input::Request::Find { tx, answer }).await?;
+    if found.position.is_none() {
+        found.position = site.stored_position(tx).await?;
+    }
     Ok(json_of(StatusCode::OK, &found_as_json(text, &found)))
 }
 

@@ -4,11 +4,13 @@ use std::time::Instant;
 
 use serde_json::{json, Value};
 use themis::Standing;
-use themis_engine::core::Desk;
+use themis_engine::core::{Core, Desk};
 use themis_engine::tx::Tx;
-use themis_engine::{Status, Time};
+use themis_engine::{sessions, Status, Time};
 
 use super::Working;
+use crate::conduct::Conduct;
+use crate::config::hex;
 use crate::exit::Failure;
 use crate::input::{Found, Pages};
 use crate::link::Link;
@@ -16,7 +18,7 @@ use crate::metrics::{fault_of, page_of, Counted};
 use crate::picture::{picture_of, Seen};
 use crate::worker::{self, status_line};
 
-impl Working {
+impl<C: Conduct> Working<C> {
     fn log_bytes(&self) -> u64 {
         self.logs.values().map(|it| it.end).sum()
     }
@@ -34,15 +36,19 @@ impl Working {
     /// Where the replica stands, as a line of JSON.
     pub(super) fn status(&mut self, now: Time) -> String {
         let it = self.sessions.status(now);
+        let fault = fault_over_sessions(&it, self.setup.place().quorum());
         let engine = it.engine.unwrap_or_else(between_sessions);
         let mut fields = status_line(&self.setup, &engine, &self.standing());
-        let calls = self.sessions.running().map(|it| it.core_mut().all());
+        let calls = self.sessions.running().map(|it| C::timed(it.core_mut()).all());
         for (name, spent) in calls.into_iter().flatten() {
             fields.insert(format!("{name}_us"), Value::from(spent.micros()));
             fields.insert(format!("{name} calls"), Value::from(spent.calls));
         }
+        fields.insert("fault".to_owned(), json!(fault));
         fields.insert("session".to_owned(), json!(it.session));
+        fields.insert("first".to_owned(), json!(it.first));
         fields.insert("batches".to_owned(), json!(it.position));
+        fields.insert("digest".to_owned(), json!(hex(&it.digest)));
         fields.insert("stage".to_owned(), json!(it.stage));
         fields.insert("helps".to_owned(), json!(it.helps));
         Value::Object(fields).to_string()
@@ -51,6 +57,7 @@ impl Working {
     /// What Prometheus reads, and whether the replica is healthy.
     pub(super) fn pages(&mut self, now: Time) -> Pages {
         let it = self.sessions.status(now);
+        let fault = fault_over_sessions(&it, self.setup.place().quorum());
         let status = it.engine.unwrap_or_else(between_sessions);
         let standing = self.standing();
         let none = Default::default;
@@ -63,10 +70,10 @@ impl Working {
             frames_dropped: standing.dropped,
             bad_frames: standing.frame_faults,
             syncs: standing.syncs,
-            calls: self.sessions.running().map_or_else(none, |it| it.core_mut().all()),
+            calls: self.sessions.running().map_or_else(none, |it| C::timed(it.core_mut()).all()),
             latency: self.observed.latency.histogram(),
         };
-        Pages { metrics: page_of(&status, &counted), fault: fault_of(&status, counted.quorum) }
+        Pages { metrics: page_of(&status, &counted), fault }
     }
 
     /// What the live page shows.
@@ -89,17 +96,29 @@ impl Working {
         })
     }
 
-    /// What has become of a transaction. The store knows those of sessions that have ended.
+    /// What has become of a transaction, as far as memory says. The store, which knows those of
+    /// sessions that have ended, is not asked here: turns would wait for it.
     pub(super) fn find(&mut self, tx: &Tx) -> Result<Found, Failure> {
         let standing = match self.sessions.running() {
-            Some(engine) => engine.core_mut().standing(tx)?,
+            Some(engine) => engine.core_mut().desk().standing(tx)?,
             None => Standing::Unknown,
         };
-        let position = match self.observed.position_of(tx) {
-            None => self.shared.batches.position_of(tx)?,
-            some => some,
-        };
-        Ok(Found { standing, position })
+        Ok(Found { standing, position: self.observed.position_of(tx) })
+    }
+}
+
+/// Why a replica is not healthy: its engine says so, it has no part in the session, or it has lost its
+/// store and does not know yet where the others are. A change of session is no fault.
+fn fault_over_sessions(it: &sessions::Status, quorum: u32) -> Option<&'static str> {
+    match &it.engine {
+        Some(engine) => fault_of(engine, quorum),
+        None if it.stage == "out" => Some(
+            "the replica has no part in this session: its key was not agreed, or its log or store is lost",
+        ),
+        None if it.stage == "returning" => Some(
+            "the store was made again: the replica waits until n-f others say in which session they are",
+        ),
+        None => None,
     }
 }
 

@@ -130,7 +130,7 @@ fn windows_are_those_of_the_list() {
         made.last().unwrap().run(&mut store);
         let found = store.history().unwrap().windows;
         assert_eq!(found, settled(&all(&made)));
-        assert_eq!(found.len(), 3);
+        assert_eq!(found.len(), 4); // not that of markers
     }
 }
 
@@ -152,9 +152,9 @@ fn stores_that_are_refused() {
     assert_eq!(Store::open(&file, &other).err(), Some(Error::OtherCluster));
 
     let store = Store::open(&file, &owner()).unwrap();
-    store.base().pragma_update(None, "user_version", 2).unwrap();
+    store.base().pragma_update(None, "user_version", 3).unwrap();
     drop(store);
-    assert_eq!(cause(&file), Error::Newer(2));
+    assert_eq!(cause(&file), Error::Newer(3));
 
     let strange = folder.0.join("strange");
     for data in [&b""[..], b"text", &[7; 5000]] {

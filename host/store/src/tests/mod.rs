@@ -1,3 +1,4 @@
+mod again;
 mod crashes;
 mod damage;
 mod ends;

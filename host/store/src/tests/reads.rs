@@ -1,5 +1,7 @@
 //! What readers see, also while something is written.
 
+use std::collections::HashSet;
+
 use super::*;
 
 #[test]
@@ -48,6 +50,23 @@ fn ends_digests_and_positions() {
     }
     assert_eq!(reader.digest_of(list.len() + 1), Ok(None));
     assert_eq!(reader.last().unwrap().number, 3);
+}
+
+#[test]
+fn what_is_final_of_some_transactions() {
+    let folder = Folder::new("finals");
+    let mut store = folder.store();
+    let made = sessions(2, 8);
+    let known = made[1].batches[2][0];
+    let other = Tx { payload: known.payload + 1, ..known };
+    let find = || folder.reader().finals([known, other].iter());
+    assert_eq!(find(), Ok(HashSet::new()));
+    made.iter().for_each(|it| it.run(&mut store));
+    assert_eq!(find(), Ok(HashSet::from([known])));
+    // Nothing is known of a list without its start.
+    let base = rusqlite::Connection::open(folder.file()).unwrap();
+    base.execute("DELETE FROM batches WHERE position = 0", []).unwrap();
+    assert!(matches!(find(), Err(Error::Corrupt(_))));
 }
 
 /// A reader neither waits for a writer, nor sees half of what it writes.
