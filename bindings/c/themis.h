@@ -42,9 +42,11 @@
  *     - `log` is what is durable: a prefix of what was written, with all bytes whose fsync had returned. A log that was lost
  *       is not replaced by an empty one: that replica is given up, with its secret.
  *
- * WHAT HOLDS THEN, and is proved of the archive's code: each call that returns THEMIS_OK did what the comment at it says. Each
+ * WHAT HOLDS THEN, and is proved of the archive's code: each call that returns THEMIS_OK did what the comment at it says (of
+ * themis_arrive and themis_arrive_proposed, which of those that wait they choose is tested, and not proved). Each
  * call that returns anything else left the replica as it was, except THEMIS_HALTED and THEMIS_AGAIN of themis_act, and
- * THEMIS_NO_MEMORY of themis_accepted and themis_arrive, and left the buffer `into` as it was. A call on a vacant handle, {0},
+ * THEMIS_NO_MEMORY of themis_accepted and themis_arrive, and left the buffer `into` as it was. After THEMIS_HALTED read only what
+ * the last turn gave, and free the replica. A call on a vacant handle, {0},
  * returns THEMIS_VACANT. `size` and `count` are also meant with THEMIS_SHORT, and `used` with THEMIS_CORRUPT_LOG. The host reads
  * nothing else that a call may have written which did not return THEMIS_OK. A handle that holds a replica holds one until themis_free.
  *
@@ -277,8 +279,8 @@ uint32_t themis_settle(themis_replica *replica, const themis_tx *txs, size_t cou
 uint32_t themis_accepted(themis_replica *replica, const uint8_t *bytes, size_t size);
 
 /* What arrives now, at most 480, in the order in which the host passes them to themis_prepare_arrived, at the next event.
- * The last `given` of the `count` are exceptions: they arrive because the chain was stuck, whatever waits. The calls that follow
- * take all of them as arrived. Status: VACANT, SHORT where `room` is below 480 (`count` is not written then), OK, NO_MEMORY: nothing
+ * The last `given` of the `count` are exceptions: they arrive because the chain was stuck, whatever waits. None is returned that
+ * had arrived or is final, and none twice. The calls that follow take all of them as arrived. Status: VACANT, SHORT where `room` is below 480 (`count` is not written then), OK, NO_MEMORY: nothing
  * has arrived then, and some transactions of blocks may have been received. */
 uint32_t themis_arrive(themis_replica *replica, themis_tx *into, size_t room, size_t *count, size_t *given);
 
@@ -336,9 +338,10 @@ typedef struct themis_finding {
  *
  * OK: the promise holds of the run. The final batches of the replicas that `faulty` does not name agree, hold each transaction
  * once, and are complete and fair. Each of these replicas conforms to the protocol, no seal is forged, and no two blocks have the
- * same digest. Refused in this order: BAD_SETTING, BAD_HEIGHT, BAD_TRACE, OTHER_KEYS, OTHER_RUN. Status: OK, NO_MEMORY,
- * BAD_SETTING, BAD_HEIGHT, BAD_TRACE, OTHER_KEYS, OTHER_RUN, UNLAWFUL, FORGED, COLLIDED. `finding` is written with OK, BAD_TRACE,
- * UNLAWFUL, FORGED and COLLIDED, and is as it was with the others. */
+ * same digest. Refused in this order: BAD_SETTING, BAD_HEIGHT, BAD_TRACE, OTHER_KEYS, OTHER_RUN. Status: BAD_SETTING,
+ * BAD_HEIGHT, BAD_TRACE, OTHER_KEYS, OTHER_RUN, OK, UNLAWFUL, FORGED, COLLIDED; NO_MEMORY, also in place of any but the first two:
+ * the trace is read and checked with memory. `finding` is written with OK, BAD_TRACE, UNLAWFUL, FORGED and COLLIDED, and is as it
+ * was with the others. */
 uint32_t themis_audit(const uint8_t *trace, size_t trace_size, const themis_run *run, const uint8_t *public_keys,
                       size_t key_count, themis_finding *finding);
 
