@@ -279,11 +279,14 @@ def audit_session(session: Path, named: set[int], is_settled: bool) -> tuple[Rep
     return audit(found[0].cluster, accounts_of(found, faulty), faulty, is_settled)
 
 
-def audit_ended(folder: Path, is_watching: bool) -> Exit:
-    """Audits sessions that follow one another, and prints a line for each."""
+def audit_ended(folder: Path, is_watching: bool, before: Path | None) -> Exit:
+    """Audits sessions that follow one another, and prints a line for each. `before` is the folder
+    of the cluster that this one continues, with its audits."""
     from service.chain_audit import PATIENCE, Audits, line_of_report  # it is built on this module
 
     audits = Audits.of_folder(folder, PATIENCE if is_watching else 0.0)
+    if before is not None:
+        audits.before = Audits.of_folder(before)
     for report in audits.watch() if is_watching else audits.ended():
         print(line_of_report(report), flush=True)
         if not report.is_well():
@@ -297,6 +300,8 @@ def main() -> int:
     parser.add_argument("folder", type=Path, help="the folder of `cluster make`, or of accounts")
     parser.add_argument("--watch", action="store_true",
                         help="where sessions follow one another: go on, for ever")
+    parser.add_argument("--after", type=Path, metavar="FOLDER",
+                        help="the folder of the cluster that this one continues, with its audits")
     parser.add_argument("--faulty", type=int, nargs="*", default=[], metavar="REPLICA",
                         help="replicas whose logs prove nothing, or are lost")
     parser.add_argument("--settled", action="store_true", help="the session ended by `close`")
@@ -306,7 +311,7 @@ def main() -> int:
     try:
         folder = given.folder.resolve()
         if (folder / CLUSTER_FILE).exists() or is_endless(current(folder)):
-            return audit_ended(folder, given.watch)
+            return audit_ended(folder, given.watch, given.after and given.after.resolve())
         session = chosen(given.folder.resolve(), given.session)
         report, trace = audit_session(session, set(given.faulty), given.settled)
     except ServiceError as fault:

@@ -47,11 +47,12 @@ SECONDS_OF_LOAD = 6
 RECOVERED_VIEWS = 2000
 AWAY_RATE, AWAY_SECONDS, CATCH_UP_SECONDS = 50, (5, 20), 20
 LEVEL = 4                   # views: one commit and what follows it
+LEAD = 5.0                  # seconds in which clients connect, so that no latency has that
 TICKS = os.sysconf("SC_CLK_TCK")
 # In the status, how long the core's calls of each kind took (`host/shell/src/timed.rs`).
 CORE_CALLS = (
-    "prepare_us", "foresee_us", "turn_us", "sends_us", "batches_us", "receive_us", "arrive_us",
-    "gives_us",
+    "verify_us", "prepare_us", "foresee_us", "turn_us", "sends_us", "batches_us", "receive_us",
+    "arrive_us", "gives_us",
 )
 
 
@@ -131,7 +132,7 @@ class Bench:
         first = random.randrange(1, 1 << 31)
         clients = min(CLIENTS, count)
         txs = [f"{first + k % clients}.{1 + k // clients}.0" for k in range(count)]
-        client = Client(self.ports, 1, Load(txs, rate, jitter))
+        client = Client(self.ports, 1, Load(txs, rate, jitter, lead=LEAD))
         asyncio.run(client.run(wait))
         after, now = self.status(), self.usage()
         views = after["view"] - before["view"]

@@ -6,8 +6,8 @@ breaks a rule by itself is false, and its replica counts as faulty:
 - it names another beginning or end of the session than the chain of sessions has;
 - a turn in it violates the protocol, or it lacks a seal that another replica accepted (the proved
   audit says which);
-- by the rules of sessions (`session_rules`): what was carried over does not arrive first, something
-  final arrives again, or the marker of another session arrives.
+- by the rules of sessions, which the library checks (`History`): what was carried over does not
+  arrive first, something final arrives again, or the marker of another session arrives.
 
 The proved audit then reads the accounts of the others, at least n-f. With the verdict `yes` the
 promise holds of this session. The chain is worked out from the final batches alone: the first batch
@@ -26,8 +26,11 @@ from service.audit import (
     Report, check_leaves, check_order, count_equivocations, finding_of, line_of,
 )
 from service.config import Cluster
-from service.core import KEY_BYTES, Tx, tx_bytes, tx_text
+from service.core import (
+    KEY_BYTES, AlreadyFinal, History, NotCarried, OtherMarker, Tx, tx_bytes, tx_of_text, tx_text,
+)
 from service.session_trace import trace_of
+from service.status import Exit, ServiceError
 
 FIRST_ANNOUNCER = (1 << 32) - 16        # replica i announces its keys as this client plus i
 KEY_HEAD, KEY_PART = 12, 8              # all keys have the same head; the rest comes in parts
@@ -53,21 +56,25 @@ class SessionReport(Report):
     session: int = 0
     position: int = 0                                       # of its first batch
     unusable: dict[int, str] = field(default_factory=dict)  # replicas, and why not
+    absent: list[int] = field(default_factory=list)         # where not even what is carried arrived
     following: Link | None = None                           # what the next session starts from
 
 
 class Chain:
     """The sessions of a cluster, as far as they were audited."""
 
-    def __init__(self, cluster: Cluster, link: Link, history: Iterable[Tx] = ()) -> None:
-        """`history` has what was final before."""
-        self.cluster, self.link, self.history = cluster, link, set(history)
+    def __init__(self, cluster: Cluster, link: Link, history: Iterable[list[Tx]] = ()) -> None:
+        """`history` has what was final before, in parts of any size."""
+        self.cluster, self.link, self.history = cluster, link, History()
+        for txs in history:
+            self.history.add(link.session, txs)
 
     def audit(
         self, accounts: Mapping[int, SessionAccount | str],
     ) -> tuple[SessionReport, list[list[Tx]]]:
         """Audits the next session; its final batches are the second part of the answer. Where all
-        is well, the chain goes on. Each replica has its account, or the text why there is none."""
+        is well, the chain goes on; otherwise, where a verdict was reached, it is of no further use.
+        Each replica has its account, or the text why there is none."""
         link, n, f = self.link, self.cluster.n, self.cluster.f
         unusable = {i: it for i, it in accounts.items() if isinstance(it, str)}
         unusable |= {i: "there is no account" for i in range(n) if i not in accounts}
@@ -132,18 +139,26 @@ class Chain:
 
     def _why_false(self, it: SessionAccount, batches: list[list[Tx]]) -> str:
         """What an account says that breaks a rule of sessions; empty where nothing does."""
-        link, arrived = self.link, it.account.arrivals
-        carried = link.carried.get(it.account.replica)
-        if carried and arrived and list(map(tx_text, arrived[:len(carried)])) != carried:
-            return "what was carried over does not arrive first"
-        again = next((tx for tx in arrived if tx in self.history), None)
-        if again is not None:
-            return f"{tx_text(again)} is final already, and arrives"
-        if any(tx.client == 0 and tx != marker(link.session) for tx in arrived):
-            return "the marker of another session arrives"
+        link = self.link
+        if why := self._why_not_arrived(it.account):
+            return why
         end = link.position + len(batches), chained(link.digest, batches)
         if it.end is not None and (it.end, it.end_digest) != end:
             return "its replica stored another end of the session"
+        return ""
+
+    def _why_not_arrived(self, account: Account) -> str:
+        """Why this can't be what arrived at a replica. Where nothing arrived, it was away."""
+        session, arrived = self.link.session, account.arrivals
+        carried = self.link.carried.get(account.replica, []) if arrived else []
+        try:
+            self.history.check(session, [tx_of_text(it) for it in carried], arrived)
+        except AlreadyFinal as fault:
+            return f"{tx_text(arrived[fault.at])} is final already, and arrives"
+        except OtherMarker:
+            return "the marker of another session arrives"
+        except NotCarried:
+            return "what was carried over does not arrive first"
         return ""
 
     def _finish(
@@ -157,21 +172,34 @@ class Chain:
             own = it.account.batches[:len(batches)]
             if own != batches[:len(own)]:
                 report.broken.append(f"the batches of replica {i} are no prefix")
-        txs = [tx for batch in batches for tx in batch]
-        report.batches, report.transactions = len(batches), len(txs)
-        if len(set(txs)) != len(txs) or self.history.intersection(txs):
-            report.broken.append("a transaction is final twice")
+        report.batches, report.transactions = len(batches), sum(map(len, batches))
+        report.absent = [i for i, it in good.items()
+                         if link.carried.get(i) and not it.account.arrivals]
+        if why := self._why_not_added(batches):
+            report.broken.append(why)
         keys = agreed_keys(n, link.session + 1, link.keys, batches)
         if sum(key is not None for key in keys) < n - self.cluster.f:
             report.broken.append("fewer keys of the next session are agreed than a quorum has")
         report.following = Link(
             link.session + 1, link.position + len(batches), chained(link.digest, batches), keys,
-            carried_over(link, {i: it.account.arrivals for i, it in good.items()}, set(txs)),
+            carried_over(
+                link, {i: it.account.arrivals for i, it in good.items()}, self.history),
         )
         if report.is_well():
-            self.history.update(txs)
             self.link = report.following
         return batches
+
+    def _why_not_added(self, batches: list[list[Tx]]) -> str:
+        """Adds the final batches of the session to the history; why that fails, or nothing."""
+        if any(len(set(it)) != len(it) for it in batches):
+            return "a batch holds a transaction twice"
+        try:
+            ends = [self.history.add(self.link.session, it) for it in batches]
+        except AlreadyFinal:
+            return "a transaction is final twice"
+        if True in ends[:-1] or not ends[-1]:
+            return "the batches do not end with the first one that has the marker"
+        return ""
 
 
 def why_not_here(it: SessionAccount, link: Link) -> str:
@@ -183,10 +211,25 @@ def why_not_here(it: SessionAccount, link: Link) -> str:
     return ""
 
 
-def first_link(cluster: Cluster) -> Link:
-    """What the first session starts from: the operators' shared file."""
-    carried: dict[int, list[str]] = {i: [] for i in range(cluster.n)}
-    return Link(cluster.session, keys=list(cluster.publics), carried=carried)
+def first_link(cluster: Cluster, before: Link | None = None) -> Link:
+    """What the first session starts from: the operators' shared file. Where the cluster continues
+    another one, `before` is where the audits of that one lead: what is carried over from there.
+    Without it that is not known."""
+    link, after = Link(cluster.session, keys=list(cluster.publics)), cluster.after
+    if after is None:
+        link.carried = {i: [] for i in range(cluster.n)}
+        return link
+    link.position, link.digest = after.position, after.digest
+    if before is not None:
+        if (before.session, before.position, before.digest) != (
+            cluster.session, after.position, after.digest,
+        ):
+            text = "the audits of the cluster before do not lead to where this one begins"
+            raise ServiceError(Exit.USAGE, text)
+        link.carried = {i: txs for i, txs in before.carried.items() if i < cluster.n}
+        # A number that was not there before has nothing to carry over.
+        link.carried |= {i: [] for i in range(len(before.keys), cluster.n)}
+    return link
 
 
 def reported_link(
@@ -245,15 +288,15 @@ def agreed_keys(
 
 
 def carried_over(
-    link: Link, arrivals: Mapping[int, list[Tx]], final: set[Tx],
+    link: Link, arrivals: Mapping[int, list[Tx]], history: History,
 ) -> dict[int, list[str]]:
     """What each replica carries over: what arrived there and is not final, in its order; where
     nothing arrived, what was carried over to it. Of a replica whose account can't be used, it is
     known only where the replica had no key, and so no log."""
-    texts = {tx_text(tx) for tx in final}
     out: dict[int, list[str]] = {}
     for i, key in enumerate(link.keys):
-        arrived = list(map(tx_text, arrivals.get(i, [])))
+        arrived = arrivals.get(i, [])
         if arrived or (key is None or i in arrivals) and i in link.carried:
-            out[i] = [tx for tx in arrived or link.carried[i] if tx not in texts]
+            before = arrived or [tx_of_text(it) for it in link.carried[i]]
+            out[i] = [tx_text(it) for it in history.carried(before)]
     return out

@@ -34,6 +34,7 @@ class Audits:
     ) -> None:
         """`folders` have the accounts, by replica."""
         self.cluster, self.folders, self.results = cluster, folders, results
+        self.before: Audits | None = None       # of the cluster that this one continues
         self.patience = patience
         self.chain: Chain | None = None
         # A session of which so many accounts were there, and too few of them could be used.
@@ -103,10 +104,20 @@ class Audits:
         numbers = sorted(int(it.stem) for it in self.results.glob("*.json"))
         return [report_of(self.results / f"{it}.json") for it in numbers]
 
-    def history(self) -> Iterator[Tx]:
-        """What was final in the sessions that were audited."""
+    def end(self) -> Link:
+        """Where the audited sessions lead; ServiceError where none was audited."""
+        done = [it.following for it in self.reports() if it.is_well() and it.following]
+        if not done:
+            raise ServiceError(Exit.USAGE, f"{self.results}: no session was audited")
+        return done[-1]
+
+    def history(self, session: int) -> Iterator[list[Tx]]:
+        """What was final in the sessions before this one that were audited."""
+        if self.before is not None:
+            yield from self.before.history(session)
         for path in self.results.glob("*.batches"):
-            yield from map(tx_of_text, path.read_text(encoding="ascii").split())
+            if int(path.stem) < session:
+                yield [tx_of_text(it) for it in path.read_text(encoding="ascii").split()]
 
     def next_chain(self) -> Chain | None:
         """The chain at the session that is audited next; None where its accounts are not there.
@@ -114,7 +125,7 @@ class Audits:
         the others say alike."""
         done = [it for it in self.reports() if it.is_well() and it.following]
         if not done:
-            link = first_link(self.cluster)
+            link = first_link(self.cluster, None if self.before is None else self.before.end())
         else:
             assert done[-1].following is not None
             link = done[-1].following
@@ -126,7 +137,7 @@ class Audits:
             if found is None:
                 return None
             link = found
-        return Chain(self.cluster, link, self.history())
+        return Chain(self.cluster, link, self.history(link.session))
 
     def keep(self, report: SessionReport, batches: list[list[Tx]]) -> None:
         """Stores what was found, the report last."""
@@ -166,6 +177,7 @@ class Audits:
             self.keep(report, batches)
             yield report
             if not report.is_well():
+                self.chain = None
                 return
 
     def watch(self) -> Iterator[SessionReport]:
@@ -196,5 +208,6 @@ def line_of_report(it: SessionReport) -> str:
     """One line of what an audit found."""
     what = it.verdict if not it.broken else f"{it.verdict}, broken: {'; '.join(it.broken)}"
     without = "".join(f"; without replica {i}: {why}" for i, why in it.unusable.items())
+    without += "".join(f"; nothing arrived at replica {i}" for i in it.absent)
     return (f"session {it.session}: {what}, {it.batches} batches from {it.position} on,"
             f" {it.transactions} transactions, {it.promised_pairs} pairs{without}")

@@ -65,12 +65,14 @@ class Batches:
 
 @dataclass
 class Load:
-    """What a client submits, and how: `rate` a second, each delayed by up to `jitter` seconds."""
+    """What a client submits, and how: `rate` a second, each delayed by up to `jitter` seconds. The
+    first is due after `lead` seconds: connections and missing certificates are made before."""
 
     txs: list[str]
     rate: float = 100.0
     jitter: float = 0.02
     only: list[int] | None = None       # replicas to submit to; None means all
+    lead: float = 0.05
 
 
 class Client:
@@ -90,7 +92,7 @@ class Client:
 
     async def run(self, wait: float) -> bool:
         """Whether all was final within `wait` seconds."""
-        start = time.monotonic() + 0.05
+        start = time.monotonic() + self.load.lead
         self.start_of = {tx: start + k / self.load.rate for k, tx in enumerate(self.load.txs)}
         only = range(len(self.replicas)) if self.load.only is None else self.load.only
         async with asyncio.TaskGroup() as group:

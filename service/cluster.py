@@ -42,6 +42,8 @@ def arguments() -> argparse.Namespace:
     made.add_argument("--plain", action="store_true", help="no TLS between replicas")
     made.add_argument("--one-session", action="store_true",
                       help="one session, which `close` ends and audits; `next` makes another")
+    made.add_argument("--after", type=Path, metavar="FOLDER",
+                      help="the cluster that it continues, once that has ended (last_session)")
     made.add_argument("--set", type=toml_line, action="append", default=[], metavar="KEY=VALUE",
                       help="more of each replica's configuration, in TOML")
     for name, text in COMMANDS.items():
@@ -85,6 +87,7 @@ def plan_of(given: argparse.Namespace) -> Plan:
     return Plan(
         n=given.n, f=given.f, p=given.gamma[0], q=given.gamma[1], views=given.views,
         height=given.height, transport="plain" if given.plain else "tls", more=more,
+        after=given.after and given.after.resolve(),
     )
 
 
@@ -161,8 +164,9 @@ def perform_endless(given: argparse.Namespace, session: Path) -> Exit:
             if given.stopped or given.faulty:
                 text = "sessions follow one another: `close` has the running one end, and no more"
                 raise ServiceError(Exit.USAGE, text)
-            ended, position = asyncio.run(end_running(session, given.wait))
-            print(f"session {ended} has ended with {position} batches in all; the next one runs")
+            ended, position, goes_on = asyncio.run(end_running(session, given.wait))
+            then = "the next one runs" if goes_on else "it was the last one"
+            print(f"session {ended} has ended with {position} batches in all; {then}")
         case _:
             text = f"sessions follow one another by themselves: there is no `{given.command}`"
             raise ServiceError(Exit.USAGE, text)

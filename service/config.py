@@ -7,7 +7,7 @@ from __future__ import annotations
 
 import json
 import tomllib
-from dataclasses import dataclass, field, fields
+from dataclasses import astuple, dataclass, field, fields
 from hashlib import sha256
 from pathlib import Path
 from typing import Any, TypeVar
@@ -20,10 +20,20 @@ TRANSPORTS = ("tls", "plain")
 
 
 @dataclass(frozen=True)
+class After:
+    """Where the cluster ended that another one continues."""
+
+    cluster: str        # the digest that names it, in hex
+    session: int        # its last one
+    position: int       # how many batches were final by then
+    digest: str         # chains all of these, in hex
+
+
+@dataclass(frozen=True)
 class Cluster:
     """What all replicas of a session agree on."""
 
-    session: int                # counted from 1; 0 where sessions follow one another
+    session: int                # counted from 1; where sessions follow one another, from 0
     n: int
     f: int
     p: int
@@ -36,6 +46,7 @@ class Cluster:
     certificates: list[str]     # a file for each replica, in PEM; empty without TLS
     transport: str = "tls"      # "plain" turns authentication and encryption off
     client_authority: str = ""  # the certificate that signs those of clients; empty without TLS
+    after: After | None = None  # where sessions follow one another: what the cluster continues
 
     def check(self, path: Path) -> None:
         """Raises where the lists do not have an item for each replica."""
@@ -60,7 +71,8 @@ class Cluster:
     def digest(self) -> bytes:
         """Names the session: peers with another digest are refused."""
         agreed = [self.session, self.n, self.f, self.p, self.q, self.views, self.height]
-        return sha256(json.dumps([*agreed, self.publics]).encode()).digest()
+        after = [list(astuple(self.after))] if self.after else []
+        return sha256(json.dumps([*agreed, self.publics, *after]).encode()).digest()
 
 
 @dataclass(frozen=True)
@@ -88,6 +100,8 @@ class Config:
     sessions: bool = False          # sessions follow one another; the secret is a master secret
     keep_logs: bool = False         # the logs of sessions that have ended stay
     accounts: int = 8               # accounts of such sessions that stay; older ones go
+    last_session: int | None = None # no later one is opened: the cluster ends with it
+    seal_threads: int | None = None # threads that check seals; none: by the processors
     fsync: bool = True
     allow_faults: bool = False      # for tests: the operator may order a `fault`
     log_receipts: bool = False      # for tests: REPLICA.receipts says what was received and heard
@@ -173,7 +187,7 @@ def config_error(path: Path, text: str) -> ServiceError:
     return ServiceError(Exit.CONFIG, f"{path}: {text}")
 
 
-Table = TypeVar("Table", Cluster, Config)
+Table = TypeVar("Table", After, Cluster, Config)
 
 
 def read_toml(kind: type[Table], path: Path) -> Table:
@@ -194,12 +208,14 @@ def table_of(kind: type[Table], table: dict[str, Any], path: Path) -> Table:
 
 
 KINDS: dict[str, tuple[type, ...]] = {
-    "int": (int,), "str": (str,), "bool": (bool,), "float": (int, float), "list[str]": (list,),
+    "int": (int,), "int | None": (int,), "str": (str,), "bool": (bool,), "float": (int, float),
+    "list[str]": (list,), "After | None": (dict,),
 }
 
 
 def checked(kind: type[Table], table: dict[str, Any]) -> dict[str, Any]:
-    """The table, where each value has the kind of its field."""
+    """The table, where each value has the kind of its field. A table in it is one of [after]."""
+    values = dict(table)
     for it in fields(kind):
         value = table.get(it.name)
         if value is None:
@@ -207,7 +223,9 @@ def checked(kind: type[Table], table: dict[str, Any]) -> dict[str, Any]:
         is_right = isinstance(value, KINDS[str(it.type)])
         if isinstance(value, bool) and it.type != "bool" or not is_right:
             raise ValueError(f"{it.name} has to be of kind {it.type}")
-    return table
+        if isinstance(value, dict):
+            values[it.name] = After(**checked(After, value))
+    return values
 
 
 def toml_of(value: Any) -> str:
@@ -220,7 +238,9 @@ def toml_of(value: Any) -> str:
 
 
 def write_toml(path: Path, table: Cluster | Config) -> None:
-    lines = [f"{it.name} = {toml_of(getattr(table, it.name))}\n" for it in fields(table)]
+    """Writes a table of one session: what it can't have is None, and left out."""
+    values = ((it.name, getattr(table, it.name)) for it in fields(table))
+    lines = [f"{name} = {toml_of(value)}\n" for name, value in values if value is not None]
     write_whole(path, "".join(lines))
 
 

@@ -19,14 +19,15 @@ except ModuleNotFoundError:
     import themis
 
 from themis import (
-    Again, Arrived, Delivered, Event, Finding, MissingFunction, Reason, Role, Run, ThemisError,
-    Tick, Tx, public_key,
+    Again, AlreadyFinal, Arrived, Delivered, Event, Finding, History, MissingFunction, NotCarried,
+    OtherMarker, Reason, Role, Run, ThemisError, Tick, Tx, public_key,
 )
 
 __all__ = [
-    "Again", "Arrived", "Core", "Delivered", "Event", "Finding", "MissingFunction", "Reason",
-    "Role", "Run", "ThemisError", "Tick", "Tx", "audit_trace", "event_of", "public_key",
-    "tx_bytes", "tx_of_bytes", "tx_of_text", "tx_text", "txs_of_bytes",
+    "Again", "AlreadyFinal", "Arrived", "Core", "Delivered", "Event", "Finding", "History",
+    "MissingFunction", "NotCarried", "OtherMarker", "Reason", "Role", "Run", "ThemisError", "Tick",
+    "Tx", "audit_trace", "event_of", "public_key", "tx_bytes", "tx_of_bytes", "tx_of_text",
+    "tx_text", "txs_of_bytes",
 ]
 
 SECRET_BYTES, KEY_BYTES = 48, 60

@@ -62,10 +62,11 @@ async def stop_submission(session: Path) -> None:
             pass        # it is down, and admits nothing
 
 
-async def end_running(session: Path, wait: float) -> tuple[int, int]:
+async def end_running(session: Path, wait: float) -> tuple[int, int, bool]:
     """Has the running session end, where sessions follow one another, and waits until the next one
-    runs: at a quorum, and at all replicas that answer and have a part in it. Returns the number of
-    the session that ended, and how many batches the list has.
+    runs: at a quorum, and at all replicas that answer and have a part in it; or, where a quorum
+    opens no later one (`last_session`), until it has ended. Returns the number of the session that
+    ended, how many batches the list has, and whether the next one runs.
 
     Who still shows that session is asked again, as nothing is asked of a replica that opens it. Who
     has left it is not: a `close` without a number would end the next one as well."""
@@ -74,7 +75,7 @@ async def end_running(session: Path, wait: float) -> tuple[int, int]:
     if not up:
         raise ServiceError(Exit.USAGE, f"{session}: no replica runs")
     ends, end, ask_at = max(it["session"] for it in up), time.monotonic() + wait, 0.0
-    while not runs_after(ends, up, cluster.n - cluster.f):
+    while (runs := is_past(ends, up, cluster.n - cluster.f)) is None:
         if time.monotonic() > end:
             where = ", ".join(f"{it['session']} {it['stage']}" for it in up)
             text = f"the session after {ends} does not run after {wait:g} seconds: {where}"
@@ -85,13 +86,18 @@ async def end_running(session: Path, wait: float) -> tuple[int, int]:
             ask_at = time.monotonic() + ASK_EVERY
         await asyncio.sleep(POLL_EVERY)
         up = list(filter(None, found := await statuses(session)))
-    return ends, min(it["first"] for it in up)
+    return ends, min(it["first"] for it in up), runs
 
 
-def runs_after(session: int, up: list[dict[str, Any]], quorum: int) -> bool:
-    """Whether later sessions than this one run at a quorum, and at all that have a part in them."""
-    is_past = all(it["session"] > session and it["stage"] in ("running", "out") for it in up)
-    return is_past and sum(it["stage"] == "running" for it in up) >= quorum
+def is_past(session: int, up: list[dict[str, Any]], quorum: int) -> bool | None:
+    """Whether later sessions than this one run, at a quorum and at all that have a part in them;
+    False where a quorum opens none. None while neither is so."""
+    stages = [it["stage"] if it["session"] > session else "before" for it in up]
+    if not set(stages) <= {"running", "out", "ended"}:
+        return None
+    if stages.count("running") >= quorum:
+        return True
+    return False if stages.count("ended") >= quorum else None
 
 
 def close_session(session: Path, wait: float, given_up: Set[int] = frozenset()) -> Report:

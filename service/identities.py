@@ -38,6 +38,14 @@ def make_authority(cluster: Path) -> Path:
     return certificate
 
 
+def take_clients(before: Path, cluster: Path) -> None:
+    """Copies the authority and its clients from the cluster that this one continues: clients keep
+    their certificates."""
+    if (before / CLIENTS).is_dir() and not (cluster / CLIENTS).exists():
+        shutil.copytree(before / CLIENTS, cluster / CLIENTS)
+        sync_folder(cluster)
+
+
 def give_authority(cluster: Path, session: Path) -> str:
     """Copies the authority's certificate to a session's folder; makes the authority where there is
     none. Returns the name of the copy."""

@@ -20,8 +20,8 @@ from service.config import (
 )
 from service.core import SECRET_BYTES, Core
 from service.files import sync_folder, write_whole
-from service.folder import REPLICAS
-from service.identities import give_authority, make_authority
+from service.folder import REPLICAS, config_path
+from service.identities import give_authority, make_authority, take_clients
 from service.program import call
 from service.status import Exit, ServiceError
 from service.tls import make_certificate
@@ -45,6 +45,7 @@ class Plan:
     more: dict[str, Any] = field(default_factory=dict)      # of each replica's configuration
     deeds: dict[int, list[str]] = field(default_factory=dict)
     ports: tuple[int, ...] = ()     # for peers, then for clients; drawn where there are none
+    after: Path | None = None       # where sessions follow one another: the cluster it continues
 
 
 def held_ports(count: int) -> list[socket.socket]:
@@ -110,19 +111,43 @@ def make_endless(folder: Path, plan: Plan) -> Path:
 def init_all(at: Path, plan: Plan) -> None:
     """What each replica has of its own, and its public part."""
     ports = [f"{HOST}:{port}" for port in plan.ports or free_ports(2 * plan.n)]
+    first = 0 if plan.after is None else last_session(plan.after) + 1
     for i in range(plan.n):
         call("init", at / str(i), "--replica", str(i), "--height", str(plan.height),
-             "--peer", ports[i], "--client", ports[plan.n + i])
+             "--peer", ports[i], "--client", ports[plan.n + i], "--first-session", str(first))
+
+
+def last_session(before: Path) -> int:
+    """The session with which the operators end a cluster."""
+    path = config_path(before / REPLICAS, 0)
+    last = Config.load(path).config.last_session
+    if last is None:
+        raise ServiceError(Exit.USAGE, f"{path} has no last_session: the cluster goes on")
+    return last
+
+
+def what_continues(before: Path, replica: int) -> Path:
+    """What `join` gets of the cluster before: the folder of the replica with this number, or for a
+    new member a store."""
+    own = config_path(before / REPLICAS, replica).parent
+    return own if own.is_dir() else config_path(before / REPLICAS, 0).with_name("0.store")
 
 
 def join_all(at: Path, plan: Plan) -> None:
     """The rest, from the public parts of all."""
     parts = [at / str(i) / f"{i}.public.toml" for i in range(plan.n)]
     is_tls = plan.transport == "tls"
-    how = ["--client-authority", make_authority(at.parent)] if is_tls else ["--plain"]
+    if is_tls and plan.after is not None:
+        take_clients(plan.after, at.parent)
+    how: list[str | Path] = ["--plain"]
+    if is_tls:
+        how = ["--client-authority", make_authority(at.parent)]
     for i in range(plan.n):
+        after: list[str | Path] = []
+        if plan.after is not None:
+            after = ["--after", what_continues(plan.after, i)]
         call("join", at / str(i), "--replica", str(i), "--f", str(plan.f), "--gamma",
-             f"{plan.p}/{plan.q}", "--views", str(plan.views), *how, *parts)
+             f"{plan.p}/{plan.q}", "--views", str(plan.views), *how, *after, *parts)
         deeds = {"deeds": plan.deeds[i]} if i in plan.deeds else {}
         add_keys(at / str(i) / f"{i}.toml", plan.more | deeds)
 

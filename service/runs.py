@@ -22,7 +22,7 @@ DEEDS = (
     "front_run", "split",
 )
 SESSION_DEEDS = ("early_marker", "two_keys", "false_history")
-ALL_DEEDS = (*DEEDS, "waste", *SESSION_DEEDS)
+ALL_DEEDS = (*DEEDS, "waste", "boast", *SESSION_DEEDS, "others_keys")
 
 
 @dataclass(frozen=True)

@@ -89,22 +89,23 @@ class Faults:
         await self._kill(replica)
 
     async def _step(self, replica: int) -> None:
-        self.cluster.expected.add(replica)
-        await self.cluster.order(replica, f"fault die {self.random.choice(STEPS)}")
-        async with self._ending(replica):
-            await self.cluster.until_ended(replica, -signal.SIGKILL)
-        await self._restart(replica)
+        step = self.random.choice(STEPS)
+        await self._end_by(replica, f"fault die {step}", -signal.SIGKILL)
 
     async def _tear(self, replica: int) -> None:
-        self.cluster.expected.add(replica)
-        await self.cluster.order(replica, f"fault tear {self.random.randrange(MAX_TEAR)}")
-        await self.cluster.until_ended(replica, -signal.SIGKILL)
-        await self._restart(replica)
+        size = self.random.randrange(MAX_TEAR)
+        await self._end_by(replica, f"fault tear {size}", -signal.SIGKILL)
 
     async def _full(self, replica: int) -> None:
+        await self._end_by(replica, "fault full", Exit.DISK)
+
+    async def _end_by(self, replica: int, order: str, status: int) -> None:
+        """The process ends with this status, by a fault that it meets at the end of the session at
+        the latest: without load nothing is written before."""
         self.cluster.expected.add(replica)
-        await self.cluster.order(replica, "fault full")
-        await self.cluster.until_ended(replica, Exit.DISK)
+        await self.cluster.order(replica, order)
+        async with self._ending(replica):
+            await self.cluster.until_ended(replica, status)
         await self._restart(replica)
 
     async def _away(self, replica: int) -> None:

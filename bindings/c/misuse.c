@@ -3,8 +3,9 @@
  *     cc -std=c11 -Wall -Wextra -Wpedantic misuse.c libthemis.a -o misuse && ./misuse
  *
  * Mistakes of a host that the library can see are answered with their statuses: at an opening, on a vacant handle, without a
- * prepared event, with receipts of nobody. A trace is audited as that of its own run, and refused as that of others. The exit
- * status is 1 where anything is otherwise. No proof covers this program. */
+ * prepared event, with receipts of nobody. A trace is audited as that of its own run, and refused as that of others. What may
+ * not arrive after a history is refused, and a verifier of other keys. The exit status is 1 where anything is otherwise. No proof covers this
+ * program. */
 #include "themis.h"
 #include <stdio.h>
 #include <stdlib.h>
@@ -126,6 +127,52 @@ static void audits(void) {
     CHECK(found.at == size - 4 && found.faulty == 0);
 }
 
+/* What may arrive in a session, and what may not. */
+static void histories(void) {
+    const themis_tx marker = {0, 0, 0}, other = {0, 2, 0}, first = {1, 1, 11}, second = {2, 1, 22};
+    const themis_tx before[] = {first, second, marker}, carrying[] = {second, {3, 1, 33}}, late[] = {{3, 1, 33}, second};
+    const themis_tx again[] = {other, first};
+    themis_tx left[2] = {{7, 7, 7}, {7, 7, 7}};
+    themis_history history = {0};
+    uint32_t ended = 77;
+    size_t at = 77, count = 77;
+    CHECK(themis_history_check(&history, 0, before, 0, before, 3, &at) == THEMIS_OK && at == 77);
+    CHECK(themis_history_add(&history, 0, &first, 1, &ended, &at) == THEMIS_OK && ended == 0);
+    CHECK(themis_history_add(&history, 0, &marker, 1, &ended, &at) == THEMIS_OK && ended == 1 && at == 77);
+    CHECK(themis_history_carried(&history, before, 3, left, 0, &count) == THEMIS_SHORT && count == 1 && left[0].client == 7);
+    CHECK(themis_history_carried(&history, before, 3, left, 2, &count) == THEMIS_OK && count == 1);
+    CHECK(left[0].client == 2 && left[1].client == 7);
+    CHECK(themis_history_check(&history, 1, before, 3, carrying, 2, &at) == THEMIS_OK);
+    CHECK(themis_history_check(&history, 1, before, 3, late, 2, &at) == THEMIS_NOT_CARRIED && at == 77);
+    CHECK(themis_history_check(&history, 1, before, 3, again, 1, &at) == THEMIS_OTHER_MARKER && at == 0);
+    CHECK(themis_history_check(&history, 1, before, 3, again, 2, &at) == THEMIS_ALREADY_FINAL && at == 1);
+    CHECK(themis_history_add(&history, 1, again, 2, &ended, &at) == THEMIS_ALREADY_FINAL && at == 1 && ended == 1);
+    CHECK(themis_history_check(&history, 2, before, 0, again, 1, &at) == THEMIS_OK);
+    themis_history_free(&history);
+    CHECK(themis_history_check(&history, 0, before, 0, before, 3, &at) == THEMIS_OK);
+    themis_history_free(&history);
+}
+
+/* What is refused of a verifier. */
+static void verifiers(void) {
+    themis_replica vacant = {0};
+    themis_verifier v = {0};
+    size_t kept = 77;
+    CHECK(themis_verify(&v, 0, 0, buffer, 1, 0, 1, &kept) == THEMIS_VACANT && kept == 77);
+    CHECK(themis_take_verified(&replica, &v) == THEMIS_VACANT);
+    CHECK(themis_verifier_new(&v, 6, keys[0], N) == THEMIS_BAD_HEIGHT && v.at == NULL);
+    CHECK(themis_verifier_new(&v, roles[0].height, keys[0], N - 1) == THEMIS_OK);
+    CHECK(themis_take_verified(&replica, &v) == THEMIS_OTHER_VERIFIER);
+    CHECK(themis_verifier_new(&v, THEMIS_HEIGHT_5, keys[0], N) == THEMIS_OK);
+    CHECK(themis_take_verified(&replica, &v) == THEMIS_OTHER_VERIFIER);
+    CHECK(themis_verifier_new(&v, roles[0].height, keys[0], N) == THEMIS_OK);
+    CHECK(themis_take_verified(&replica, &v) == THEMIS_OK);
+    CHECK(themis_take_verified(&vacant, &v) == THEMIS_VACANT);
+    CHECK(themis_verify(&v, 0, 0, buffer, 1, 0, 0, &kept) == THEMIS_OK && kept == 0);
+    themis_verifier_free(&v);
+    CHECK(themis_verify(&v, 0, 0, buffer, 1, 0, 1, &kept) == THEMIS_VACANT);
+}
+
 static void start(void) {
     for (uint32_t i = 0; i < N; i++) {
         roles[i] = (themis_role){N, 1, 1, 1, VIEWS, i, THEMIS_HEIGHT_5_5};
@@ -146,6 +193,8 @@ int main(void) {
     misuse();
     misuse_of_receipts();
     audits();
+    histories();
+    verifiers();
     themis_free(&replica);
     return 0;
 }

@@ -7,9 +7,11 @@
  * allocation failing, then its second, until none is left to fail. Each of these calls has to answer
  * THEMIS_NO_MEMORY and leave the replica as it was, or do the same as with ample memory. A turn that changes
  * the replica answers THEMIS_HALTED: the replica is then opened again from its log without the record of the
- * event. With STEP, only each STEP-th allocation fails. In the end both have given the same, and no block is
- * left: themis_free freed each replica, and themis_open each one that its handle still held. The exit status is 1
- * where anything is otherwise. No proof covers this program. */
+ * event. With STEP, only each STEP-th allocation fails. The history of a session is made in the same way, and a verifier
+ * checks the seals of each message: the replica that takes them allocates nothing for them, as it does not check them. In the
+ * end both replicas have given the same, and no block is left: themis_free freed each replica, and themis_open
+ * each one that its handle still held. The exit status is 1 where anything is otherwise. No proof covers this
+ * program. */
 #include "themis.h"
 #include <stdio.h>
 #include <stdlib.h>
@@ -23,6 +25,7 @@ static long left = -1;
 static unsigned long refused;
 static long step = 1; /* each of how many allocations is tried */
 static long live;     /* blocks that are not freed yet, of the library and of this program */
+static long made;     /* all blocks */
 
 void *__real_malloc(size_t);
 void *__real_realloc(void *, size_t);
@@ -47,6 +50,7 @@ static int fails(void) {
 void *__wrap_malloc(size_t size) {
     void *at = fails() ? NULL : __real_malloc(size);
     live += at != NULL;
+    made += at != NULL;
     return at;
 }
 
@@ -80,6 +84,8 @@ static const themis_role role = {1, 0, 1, 1, VIEWS, 0, THEMIS_HEIGHT_5};
 static const themis_tx txs[TXS] = {{1, 1, 11}, {2, 1, 22}, {3, 1, 33}};
 static uint8_t secret[48], key[60];
 static host ample, tried;
+static themis_verifier verifier;
+static long saved; /* allocations that a verifier saved */
 static event queue[MOST];
 static size_t head, tail;
 static unsigned long calls;
@@ -234,9 +240,34 @@ static void look_at_turn(uint32_t status, const event *e, size_t end) {
     open_again(e, end);
 }
 
+/* How many blocks a replica allocates to check a message. */
+static long allocated(host *h, const event *e) {
+    uint32_t yes;
+    long before = made;
+    CHECK(themis_would_change(&h->handle, 0, e->bytes, e->size, &yes) == THEMIS_OK);
+    return made - before;
+}
+
+/* A verifier checks the seals of a message, with each allocation failing. Then the replica that takes them knows them. */
+static void verify(const event *e) {
+    uint32_t views[2], status;
+    size_t kept;
+    CHECK(themis_views(&tried.handle, &views[0], &views[1]) == THEMIS_OK);
+    EACH_REFUSED(status, themis_verify(&verifier, views[0], 0, e->bytes, e->size, 0, 1, &kept), CHECK(status == THEMIS_OK));
+    CHECK(status == THEMIS_OK && themis_take_verified(&tried.handle, &verifier) == THEMIS_OK);
+    long with = allocated(&tried, e), without = allocated(&ample, e);
+    CHECK(with <= without);
+    saved += without - with;
+}
+
+static void make_verifier(void) {
+    LOOK_EACH_REFUSED(themis_verifier_new(&verifier, role.height, key, 1));
+}
+
 static void take(const event *e) {
     uint32_t reasons[2], status, yes;
     if (e->kind == DELIVERED) {
+        verify(e);
         LOOK_EACH_REFUSED(themis_would_change(&tried.handle, 0, e->bytes, e->size, &yes));
     }
     CHECK(prepare(&ample, e) == THEMIS_OK);
@@ -361,6 +392,25 @@ static void open_over_log(void) {
     same_place();
 }
 
+/* The history of a session, with each allocation failing. What a refused call had added would be ALREADY_FINAL. */
+static void one_history(void) {
+    const themis_tx marker = {0, 0, 0};
+    themis_history history = {0};
+    themis_tx carried[TXS];
+    uint32_t ended = 77;
+    size_t at = 77, size = 77;
+    LOOK_EACH_REFUSED(themis_history_check(&history, 0, txs, 0, txs, TXS, &at));
+    LOOK_EACH_REFUSED(themis_history_add(&history, 0, txs, 1, &ended, &at));
+    CHECK(ended == 0);
+    LOOK_EACH_REFUSED(themis_history_add(&history, 0, &marker, 1, &ended, &at));
+    CHECK(ended == 1);
+    LOOK_EACH_REFUSED(themis_history_carried(&history, txs, TXS, carried, TXS, &size));
+    CHECK(size == TXS - 1 && memcmp(carried, txs + 1, size * sizeof carried[0]) == 0);
+    LOOK_EACH_REFUSED(themis_history_check(&history, 1, txs, TXS, carried, size, &at));
+    CHECK(at == 77);
+    themis_history_free(&history);
+}
+
 int main(int count, char **words) {
     if (count > 1) {
         step = strtol(words[1], NULL, 10);
@@ -370,6 +420,7 @@ int main(int count, char **words) {
         secret[k] = (uint8_t)(7 * k + 1);
     }
     open_both();
+    make_verifier();
     take(&(event){ARRIVED, 0, 0, NULL});
     for (uint32_t view = 0; view < VIEWS; view++) {
         take(&(event){TICK, view, 0, NULL});
@@ -384,6 +435,9 @@ int main(int count, char **words) {
     receive_both();
     arrive_both();
     open_over_log();
+    one_history();
+    CHECK(saved > 0);
+    themis_verifier_free(&verifier);
     /* The handle holds a replica, which is freed. */
     CHECK(open_log(&ample, &(size_t){0}) == THEMIS_OK);
     themis_free(&ample.handle);

@@ -47,8 +47,9 @@
  * call that returns anything else left the replica as it was, except THEMIS_HALTED and THEMIS_AGAIN of themis_act, and
  * THEMIS_NO_MEMORY of themis_accepted and themis_arrive, and left the buffer `into` as it was. After THEMIS_HALTED read only what
  * the last turn gave, and free the replica. A call on a vacant handle, {0},
- * returns THEMIS_VACANT. `size` and `count` are also meant with THEMIS_SHORT, and `used` with THEMIS_CORRUPT_LOG. The host reads
- * nothing else that a call may have written which did not return THEMIS_OK. A handle that holds a replica holds one until themis_free.
+ * returns THEMIS_VACANT. `size` and `count` are also meant with THEMIS_SHORT, and `used` with THEMIS_CORRUPT_LOG. With
+ * THEMIS_NO_MEMORY `size` and `count` are as they were. The host reads nothing else that a call may have written which did not
+ * return THEMIS_OK. A handle that holds a replica holds one until themis_free.
  *
  * A call returns one of the statuses that are listed at it, and no other. A status other than THEMIS_OK and THEMIS_NO_MEMORY is
  * returned exactly where its cause holds; where several hold, the first one listed counts. THEMIS_NO_MEMORY takes the place of
@@ -274,8 +275,9 @@ uint32_t themis_restore(themis_replica *replica, const themis_tx *tx, uint32_t *
 /* Transactions that are final. They are no longer held, and are not received again. Status: VACANT, OK, NO_MEMORY. */
 uint32_t themis_settle(themis_replica *replica, const themis_tx *txs, size_t count);
 
-/* The message of a block that a turn stored. What more than f of its lists hold is received, and arrives once the chain proposes
- * it. Status: VACANT, NONE where it is no Propose and no Give, OK, NO_MEMORY: some of them may not be received then. */
+/* The message of a block that a turn stored. What more than f of its lists hold is received, and may arrive out of its turn, but
+ * nothing that waits then has a key below the (f+1)-th smallest stamp of it. Status: VACANT, NONE where it is no Propose and no
+ * Give, OK, NO_MEMORY: some of them may not be received then. */
 uint32_t themis_accepted(themis_replica *replica, const uint8_t *bytes, size_t size);
 
 /* What arrives now, at most 480, in the order in which the host passes them to themis_prepare_arrived, at the next event.
@@ -344,6 +346,100 @@ typedef struct themis_finding {
  * was with the others. */
 uint32_t themis_audit(const uint8_t *trace, size_t trace_size, const themis_run *run, const uint8_t *public_keys,
                       size_t key_count, themis_finding *finding);
+
+/* ---- Sessions that follow one another (docs/PROTOCOL.md, "Rules of sessions"). These calls need no replica. An auditor that has
+ * what arrived at each replica in each session, and the final batches, checks by them whether the replicas carried over by the rules.
+ *
+ *     themis_history h = {0};                                       // nothing is final yet
+ *     for each session, in order:
+ *         for each replica that is not known to be faulty:          // `before`: what arrived at it in the session before
+ *             themis_history_check(&h, session, before, before_count, arrived, arrived_count, &position);
+ *         for each final batch of a replica that has ended the session, until `ended` is 1:
+ *             themis_history_add(&h, session, batch, count, &ended, &position);
+ *     themis_history_free(&h);
+ *
+ * Promises 1 to 5 are also those of this handle. A call that does not return THEMIS_OK leaves the history as it was.
+ *
+ * The law (crates/session_laws, audited_services_serve): suppose that the record of each session is sound, as themis_audit says with
+ * THEMIS_OK; that each session's batches are those of a replica that is not faulty, up to the one with the marker; and that
+ * themis_history_check returned THEMIS_OK for each replica that is not faulty in the session. Then the premises of the laws over
+ * sessions hold: over all sessions the histories of these replicas agree, hold no transaction twice, and are fair. */
+
+/* Opaque: what is final in a chain of sessions. {0} is a history in which nothing is final. */
+typedef struct themis_history {
+    void *at;
+} themis_history;
+
+/* Statuses of these calls, besides THEMIS_OK, THEMIS_SHORT and THEMIS_NO_MEMORY. NO_MEMORY may stand in place of each other one. */
+enum themis_history_status {
+    THEMIS_ALREADY_FINAL = 24, /* the transaction at `position` is in the history */
+    THEMIS_OTHER_MARKER = 25,  /* the transaction at `position` is of client 0, and not the session's marker, 0.SESSION.0 */
+    THEMIS_NOT_CARRIED = 26    /* what is carried over does not arrive first, in its order */
+};
+
+/* Adds a final batch of a session, of which nothing is in the history yet. `ended` is then 1 where the batch holds the session's
+ * marker, and otherwise 0: such a batch is the last that counts. Status: ALREADY_FINAL with the position of the first such
+ * transaction in the batch, OK, NO_MEMORY. */
+uint32_t themis_history_add(themis_history *history, uint32_t session, const themis_tx *batch, size_t count, uint32_t *ended,
+                            size_t *position);
+
+/* Checks what arrived at a replica in a session, where the history has what was final before it. `before` is what arrived at the
+ * replica in the session before. It is empty where the replica was not in that session, or this is not known: it then counts as
+ * faulty there. Status: ALREADY_FINAL and OTHER_MARKER with the position of the first such transaction that arrived, NOT_CARRIED,
+ * OK, NO_MEMORY. The first that holds counts. */
+uint32_t themis_history_check(themis_history *history, uint32_t session, const themis_tx *before, size_t before_count,
+                              const themis_tx *arrived, size_t arrived_count, size_t *position);
+
+/* Copies what a replica carries over: what arrived at it, and is not in the history, in its order. Call it once the session's
+ * batches were added. Status: SHORT, OK, NO_MEMORY. */
+uint32_t themis_history_carried(themis_history *history, const themis_tx *arrived, size_t arrived_count, themis_tx *into,
+                                size_t room, size_t *count);
+
+/* Frees the history. Nothing is final in it then. */
+void themis_history_free(themis_history *history);
+
+/* ---- Seals that are checked ahead. To check the seals of a proposal takes most of the time of themis_prepare_deliver. A host with
+ * several processors lets verifiers check them before, each on a thread of its own:
+ *
+ *     themis_verifier v[3] = {{0}, {0}, {0}};
+ *     themis_verifier_new(&v[k], role.height, public_keys, n);                  // for each k
+ *     for a message of replica `from`:
+ *         themis_verify(&v[k], view, from, bytes, size, k, 3, &kept);           // for each k, on thread k; then join them
+ *         themis_take_verified(&r, &v[k]);                                      // for each k, on the replica's thread
+ *         themis_prepare_deliver(&r, from, bytes, size);                        // checks only what no verifier accepted
+ *
+ * Promises 1 to 5 are also those of this handle. So a verifier is used by one thread at a time, and no two calls get the same
+ * handle at the same time. A call on a replica and a call on a verifier may run at the same time, except themis_take_verified, which
+ * gets both. A verifier holds no secret. It changes no answer of a replica: this accepts exactly the seals that fit under its public
+ * keys, whatever a verifier kept. */
+
+/* Opaque. {0} is vacant: it holds no verifier. */
+typedef struct themis_verifier {
+    void *at;
+} themis_verifier;
+
+/* The status of themis_take_verified, besides THEMIS_OK and THEMIS_VACANT. */
+enum themis_verifier_status {
+    THEMIS_OTHER_VERIFIER = 27 /* the verifier has other public keys than the replica, or keys of another height */
+};
+
+/* Makes a verifier by the public keys of all replicas, 60 bytes each, key i for replica i; `key_count` counts keys, not bytes. With
+ * OK, a verifier that the handle held is freed. Status: BAD_HEIGHT, OK, NO_MEMORY. */
+uint32_t themis_verifier_new(themis_verifier *verifier, uint32_t height, const uint8_t *public_keys, size_t key_count);
+
+/* Checks a share of the seals of a message that replica `from` sent, for a replica in this view: those whose number modulo `shares`
+ * is `share`, in the order of the message; none where `shares` is 0. The verifier keeps those that fit until its next call of
+ * themis_verify, and writes how many these are. It stops at one that does not fit, and checks nothing of a message that is too old
+ * for the view or names another sender. Where memory runs out, a seal is not kept. Status: VACANT, OK. */
+uint32_t themis_verify(themis_verifier *verifier, uint32_t view, uint32_t from, const uint8_t *bytes, size_t size, uint32_t share,
+                       uint32_t shares, size_t *kept);
+
+/* Lets the replica remember the seals that the verifier keeps, the last eight of each replica. The calls that read their message do
+ * not check them again. Status: VACANT where one of the handles is vacant, OTHER_VERIFIER, OK. */
+uint32_t themis_take_verified(themis_replica *replica, themis_verifier *verifier);
+
+/* Frees the verifier, if there is one. The handle is vacant then. */
+void themis_verifier_free(themis_verifier *verifier);
 
 #ifdef __cplusplus
 }

@@ -311,6 +311,10 @@ def try_misuse(run: Run) -> None:
     require(replica.hear(1, TXS[0], NO_STAMP) == Taken.BEYOND, "no honest clock reaches it")
     require(replica.standing(TXS[0]) == Standing.UNKNOWN, "it changes nothing")
     require(not replica.accepted(GARBAGE), "it has no block")
+    verifier, other = (themis.Verifier(role.height, them) for them in (keys, keys[1:]))
+    require(verifier.verify(0, 0, GARBAGE, 0, 1) == 0, "what is no message has no seals")
+    replica.take_verified(verifier)
+    refused(themis.OtherVerifier, Status.OTHER_VERIFIER, lambda: replica.take_verified(other))
     replica.close()
     replica.close()
     refused(themis.Vacant, Status.VACANT, replica.views)
@@ -318,6 +322,25 @@ def try_misuse(run: Run) -> None:
     refused(themis.Vacant, Status.VACANT, lambda: replica.settle(TXS))
     refused(themis.Vacant, Status.VACANT, replica.arrive)
     refused(themis.Vacant, Status.VACANT, replica.held)
+
+
+def try_history() -> None:
+    """What may arrive in a session that follows another one, and what may not."""
+    history, last, other = themis.History(), Tx(0, 0, 0), Tx(0, 2, 0)
+    before = [*TXS, last]
+    history.check(0, [], before)
+    require(not history.add(0, TXS[:1]) and history.add(0, [last]), "the marker ends the session")
+    left = history.carried(before)
+    require(left == TXS[1:], "what is not final is carried over")
+    history.check(1, before, [*left, Tx(9, 1, 9)])
+    refused(themis.NotCarried, Status.NOT_CARRIED, lambda: history.check(1, before, left[::-1]))
+    places = [
+        refused(themis.AlreadyFinal, Status.ALREADY_FINAL, lambda: history.add(1, TXS[::-1])),
+        refused(themis.AlreadyFinal, Status.ALREADY_FINAL, lambda: history.check(1, [], before)),
+        refused(themis.OtherMarker, Status.OTHER_MARKER, lambda: history.check(1, [], [other])),
+    ]
+    require([getattr(it, "at", None) for it in places] == [3, 0, 0], "their places")
+    history.check(1, before, left)
 
 
 def main() -> int:
@@ -329,6 +352,7 @@ def main() -> int:
         run = Run(Path(folder))
         try:
             try_misuse(run)
+            try_history()
             run.play()
             run.report()
         finally:

@@ -36,22 +36,26 @@ from dataclasses import astuple, dataclass
 from itertools import starmap
 
 from themis_errors import (
-    Again, BadTrace, CorruptLog, Halted, MissingFunction, NoHeader, NoMemory, OtherKeys, OtherLog,
-    OtherRun, Status, ThemisError, TooLong, Unready, Vacant, WrongSecret, check,
+    Again, AlreadyFinal, BadTrace, CorruptLog, Halted, MissingFunction, NoHeader, NoMemory,
+    NotCarried, OtherKeys, OtherLog, OtherMarker, OtherRun, OtherVerifier, Status, ThemisError,
+    TooLong, Unready, Vacant, WrongSecret, check,
 )
+from themis_history import History
 from themis_library import (
-    KEY_SIZE, CFinding, CReceipt, CReplica, CRole, CRun, CTx, Library, joined_keys, loaded, number,
-    sized,
+    KEY_SIZE, TX_FORM, CFinding, CReceipt, CReplica, CRole, CRun, CTx, Library, c_txs, joined_keys,
+    loaded, number, sized,
 )
 from themis_values import (
     Arrived, Delivered, Event, Held, Height, Reason, Role, Run, Standing, Taken, Tick, Tx,
 )
+from themis_verifier import Verifier
 
 __all__ = [
-    "Again", "Arrived", "BadTrace", "CorruptLog", "Delivered", "Event", "Finding", "Halted", "Held",
-    "Height", "MissingFunction", "NoHeader", "NoMemory", "OtherKeys", "OtherLog", "OtherRun",
-    "Reason", "Replica", "Role", "Run", "Standing", "Status", "Taken", "ThemisError", "Tick",
-    "TooLong", "Tx", "Unready", "Vacant", "WrongSecret", "audit", "public_key",
+    "Again", "AlreadyFinal", "Arrived", "BadTrace", "CorruptLog", "Delivered", "Event", "Finding",
+    "Halted", "Held", "Height", "History", "MissingFunction", "NoHeader", "NoMemory", "NotCarried",
+    "OtherKeys", "OtherLog", "OtherMarker", "OtherRun", "OtherVerifier", "Reason", "Replica",
+    "Role", "Run", "Standing", "Status", "Taken", "ThemisError", "Tick", "TooLong", "Tx",
+    "Unready", "Vacant", "Verifier", "WrongSecret", "audit", "public_key",
 ]
 
 SECRET_SIZE = 48
@@ -60,18 +64,8 @@ MAX_REPLICAS = 16
 FIRST_ROOM = 1 << 16
 FIRST_BATCH = 64
 MAX_ARRIVALS = 480
-TX_FORM = struct.Struct("=IIQ")
 RECEIPT_FORM = struct.Struct("=IIQQ")
 TAKEN, STANDINGS = tuple(Taken), tuple(Standing)        # by their numbers
-
-
-def _c_txs(txs: Sequence[Tx]) -> ctypes.Array[CTx]:
-    """An array of the transactions, with at least one place, so that its address is valid."""
-    try:
-        packed = b"".join(TX_FORM.pack(*tx) for tx in txs)
-    except struct.error as fault:
-        raise ValueError(f"no transaction: {fault}") from fault
-    return (CTx * max(1, len(txs))).from_buffer_copy(packed or bytes(TX_FORM.size))
 
 
 def _packed(into: CTx | CReceipt, form: struct.Struct, *fields: int) -> object:
@@ -167,7 +161,7 @@ class Replica:
         The record is appended to the log, and made durable, before the turn on the event. An empty
         record stands for none: the event changes nothing. Raises TooLong, Halted, NoMemory.
         """
-        return self._prepare("themis_prepare_arrived", _c_txs(txs), len(txs))
+        return self._prepare("themis_prepare_arrived", c_txs(txs), len(txs))
 
     def prepare_deliver(self, sender: int, data: bytes) -> bytes:
         """Prepares the event that replica `sender` sent these bytes; as `prepare_arrived`."""
@@ -199,6 +193,14 @@ class Replica:
             arguments = number(sender), data, len(data), byref(yes)
             check(self._call("themis_would_change", *arguments))
         return yes.value == 1
+
+    def take_verified(self, verifier: Verifier) -> None:
+        """Remembers the seals that a verifier keeps, so that they are not checked again.
+
+        Raises OtherVerifier, where it has other public keys or keys of another height.
+        """
+        with self._lock:
+            verifier.take(self._handle)
 
     def prepared(self) -> int:
         """How many events are prepared."""
@@ -336,7 +338,7 @@ class Replica:
     def settle(self, txs: Sequence[Tx]) -> None:
         """Transactions that are final: they are not received again. Raises NoMemory."""
         with self._lock:
-            check(self._call("themis_settle", _c_txs(txs), len(txs)))
+            check(self._call("themis_settle", c_txs(txs), len(txs)))
 
     def accepted(self, data: bytes) -> bool:
         """The message of a block that a turn stored: a Propose or a Give. Whether it is one.

@@ -32,6 +32,10 @@ class Status(IntEnum):
     FORGED = 21
     COLLIDED = 22
     OTHER_RUN = 23
+    ALREADY_FINAL = 24
+    OTHER_MARKER = 25
+    NOT_CARRIED = 26
+    OTHER_VERIFIER = 27
 
 
 class ThemisError(Exception):
@@ -59,12 +63,14 @@ class WrongSecret(ThemisError):
 
 
 class PlacedError(ThemisError):
-    """An input has a fault at byte `at`, counted from its first byte."""
+    """An input has a fault at byte `at`, counted from its first byte; or at another `unit`."""
+
+    unit = "byte"
 
     def __init__(self, status: int, at: int) -> None:
         super().__init__(status)
         self.at = at
-        self.args = (f"{self.args[0]} at byte {at}",)
+        self.args = (f"{self.args[0]} at {self.unit} {at}",)
 
 
 class CorruptLog(PlacedError):
@@ -110,6 +116,26 @@ class OtherRun(ThemisError):
     """The trace has another setting, other views or another height than the auditor expects."""
 
 
+class AlreadyFinal(PlacedError):
+    """The transaction at position `at` of a list is final already."""
+
+    unit = "position"
+
+
+class OtherMarker(PlacedError):
+    """The transaction at position `at` is of client 0, and not the marker of the session."""
+
+    unit = "position"
+
+
+class NotCarried(ThemisError):
+    """What is carried over does not arrive first, in its order."""
+
+
+class OtherVerifier(ThemisError):
+    """The verifier has other public keys than the replica, or keys of another height."""
+
+
 TEXTS: dict[int, str] = {
     Status.VACANT: "the replica was closed",
     Status.NO_MEMORY: "out of memory: nothing was changed",
@@ -131,6 +157,10 @@ TEXTS: dict[int, str] = {
     Status.BAD_TRACE: "the bytes are no trace",
     Status.OTHER_KEYS: "the trace has other public keys",
     Status.OTHER_RUN: "the trace has another setting, other views or another height",
+    Status.ALREADY_FINAL: "the list has a transaction that is final already",
+    Status.OTHER_MARKER: "the list has a transaction of client 0 that is not the session's marker",
+    Status.NOT_CARRIED: "what is carried over does not arrive first",
+    Status.OTHER_VERIFIER: "the verifier has other public keys, or keys of another height",
 }
 
 ERRORS: dict[int, type[ThemisError]] = {
@@ -145,6 +175,8 @@ ERRORS: dict[int, type[ThemisError]] = {
     Status.AGAIN: Again,
     Status.OTHER_KEYS: OtherKeys,
     Status.OTHER_RUN: OtherRun,
+    Status.NOT_CARRIED: NotCarried,
+    Status.OTHER_VERIFIER: OtherVerifier,
 }
 
 

@@ -8,6 +8,7 @@ from __future__ import annotations
 
 import ctypes
 import os
+import struct
 from collections.abc import Callable, Sequence
 from ctypes import POINTER, c_char_p, c_size_t, c_uint8, c_uint32, c_uint64, c_void_p
 from functools import cache
@@ -17,10 +18,23 @@ from typing import Any
 from themis_errors import MissingFunction
 
 KEY_SIZE = 60
+TX_FORM = struct.Struct("=IIQ")
 
 
 class CReplica(ctypes.Structure):
     """`themis_replica`: opaque; all zero, it holds no replica."""
+
+    _fields_ = [("at", c_void_p)]
+
+
+class CHistory(ctypes.Structure):
+    """`themis_history`: opaque; all zero, nothing is final in it."""
+
+    _fields_ = [("at", c_void_p)]
+
+
+class CVerifier(ctypes.Structure):
+    """`themis_verifier`: opaque; all zero, it holds no verifier."""
 
     _fields_ = [("at", c_void_p)]
 
@@ -62,14 +76,18 @@ class CFinding(ctypes.Structure):
 
 
 _HANDLE = ("replica", POINTER(CReplica))
+_HISTORY = ("history", POINTER(CHistory))
+_VERIFIER = ("verifier", POINTER(CVerifier))
 _INTO = (("into", POINTER(c_uint8)), ("room", c_size_t), ("size", POINTER(c_size_t)))
 _COUNT = ("count", POINTER(c_size_t))
 _POSITION = ("position", c_size_t)
+_FOUND = ("position", POINTER(c_size_t))
+_ARRIVED = (("arrived", POINTER(CTx)), ("arrived_count", c_size_t))
 _TX = ("tx", POINTER(CTx))
 _TAKEN = ("taken", POINTER(c_uint32))
 
-# The name and the type of each argument. Each function but themis_free answers a status. What C
-# has as `const uint8_t *` is c_char_p: ctypes passes the address of the bytes themselves.
+# The name and the type of each argument. Each function answers a status, but for FREES. What C has
+# as `const uint8_t *` is c_char_p: ctypes passes the address of the bytes themselves.
 DECLARATIONS: dict[str, tuple[tuple[str, Any], ...]] = {
     "themis_public_key": (
         ("height", c_uint32), ("secret", c_char_p), ("public_key", POINTER(c_uint8)),
@@ -128,7 +146,29 @@ DECLARATIONS: dict[str, tuple[tuple[str, Any], ...]] = {
         _HANDLE, ("held", POINTER(c_size_t)), ("waiting", POINTER(c_size_t)),
         ("own", POINTER(c_uint64)),
     ),
+    "themis_history_add": (
+        _HISTORY, ("session", c_uint32), ("batch", POINTER(CTx)), ("count", c_size_t),
+        ("ended", POINTER(c_uint32)), _FOUND,
+    ),
+    "themis_history_check": (
+        _HISTORY, ("session", c_uint32), ("before", POINTER(CTx)), ("before_count", c_size_t),
+        *_ARRIVED, _FOUND,
+    ),
+    "themis_history_carried": (
+        _HISTORY, *_ARRIVED, ("into", POINTER(CTx)), ("room", c_size_t), _COUNT,
+    ),
+    "themis_history_free": (_HISTORY,),
+    "themis_verifier_new": (
+        _VERIFIER, ("height", c_uint32), ("public_keys", c_char_p), ("key_count", c_size_t),
+    ),
+    "themis_verify": (
+        _VERIFIER, ("view", c_uint32), ("from", c_uint32), ("bytes", c_char_p), ("size", c_size_t),
+        ("share", c_uint32), ("shares", c_uint32), ("kept", POINTER(c_size_t)),
+    ),
+    "themis_take_verified": (_HANDLE, _VERIFIER),
+    "themis_verifier_free": (_VERIFIER,),
 }
+FREES = ("themis_free", "themis_history_free", "themis_verifier_free")
 
 
 class Library:
@@ -142,7 +182,7 @@ class Library:
             function = getattr(loaded, name, None)
             if function is not None:
                 function.argtypes = [of for _, of in arguments]
-                function.restype = None if name == "themis_free" else c_uint32
+                function.restype = None if name in FREES else c_uint32
                 self._functions[name] = function
 
     def call(self, name: str, *arguments: object) -> int:
@@ -195,3 +235,12 @@ def sized(data: bytes, size: int) -> bytes:
 def joined_keys(public_keys: Sequence[bytes]) -> bytes:
     """Public keys, one after another."""
     return b"".join(sized(key, KEY_SIZE) for key in public_keys)
+
+
+def c_txs(txs: Sequence[tuple[int, int, int]]) -> ctypes.Array[CTx]:
+    """An array of the transactions, with at least one place, so that its address is valid."""
+    try:
+        packed = b"".join(TX_FORM.pack(*tx) for tx in txs)
+    except struct.error as fault:
+        raise ValueError(f"no transaction: {fault}") from fault
+    return (CTx * max(1, len(txs))).from_buffer_copy(packed or bytes(TX_FORM.size))

@@ -3,8 +3,6 @@
 from __future__ import annotations
 
 import asyncio
-import contextlib
-import io
 import json
 import os
 import shutil
@@ -13,38 +11,22 @@ import time
 import unittest
 from collections.abc import Callable
 from pathlib import Path
-from unittest.mock import patch
+from unittest.mock import Mock, patch
 
 from service import audit, cluster
 from service.chain import Chain, SessionReport, agreed_keys, carried_over, chained, Link
 from service.chain_audit import Audits
 from service.client import Client, Load
-from service.core import KEY_BYTES, Tx, tx_of_text
+from service.core import KEY_BYTES, History, Tx, tx_of_text
 from service.folder import REPLICAS, replica_ports
-from service.program import themisd
 from service.processes import WITH_PARENT, start_all, stop_all
-from service.status import Exit, ServiceError
+from service.status import Exit
 from service.tests import why_no_library
+from service.tests.endless import (
+    LIMIT, ended, wait_for_accounts, wait_for_keys, why_no_program,
+)
 
-LIMIT = 1800.0      # seconds of a wait, which ends once what it waits for is there
 N = 5
-
-
-def why_no_program() -> str:
-    """Why no such cluster can run here; empty where one can."""
-    try:
-        themisd()
-    except ServiceError as fault:
-        return str(fault)
-    return why_no_library()
-
-
-def ended(main: Callable[[], int], *words: str) -> tuple[int, str]:
-    """How a command ends, and what it prints."""
-    output = io.StringIO()
-    with (patch("sys.argv", ["command", *words]), contextlib.redirect_stdout(output),
-          contextlib.redirect_stderr(output)):
-        return main(), output.getvalue()
 
 
 class Rules(unittest.TestCase):
@@ -67,12 +49,29 @@ class Rules(unittest.TestCase):
         keys = agreed_keys(N, 3, [None, self.HEAD + "ff" * 48], batches)
         self.assertEqual(keys, [self.key(7), None, None, self.key(6), None])
 
+    @unittest.skipIf(why_no_library(), why_no_library())
     def test_what_is_carried_over(self) -> None:
         """What arrived and is not final; where nothing arrived, what was carried over before."""
         a, b, c = Tx(1, 1, 0), Tx(1, 2, 0), Tx(1, 3, 0)
         link = Link(4, keys=["k", "k", None, "k"], carried={1: ["1.1.0", "1.3.0"], 2: ["1.2.0"]})
-        found = carried_over(link, {0: [c, a, b], 1: []}, {a})
+        history = History()
+        history.add(4, [a])
+        found = carried_over(link, {0: [c, a, b], 1: []}, history)
         self.assertEqual(found, {0: ["1.3.0", "1.2.0"], 1: ["1.3.0"], 2: ["1.2.0"]})
+
+    @unittest.skipIf(why_no_library(), why_no_library())
+    def test_what_is_final_twice(self) -> None:
+        """In a batch, in two batches or in two sessions; and the marker is in the last batch."""
+        a, b, last = Tx(1, 1, 0), Tx(1, 2, 0), Tx(0, 4, 0)
+        for why, batches in (
+            ("", [[b], [last]]), ("is final twice", [[b], [a, last]]),
+            ("is final twice", [[b], [b], [last]]), ("a transaction twice", [[b, b], [last]]),
+            ("do not end", [[last], [b]]), ("do not end", [[b]]),
+        ):
+            chain = Chain(Mock(), Link(4), [[a]])
+            found = chain._why_not_added(batches)
+            self.assertEqual(bool(found), bool(why), batches)
+            self.assertIn(why, found)
 
     def test_the_digest_goes_on(self) -> None:
         one, two = [[Tx(1, 1, 0)]], [[Tx(1, 2, 0), Tx(2, 1, 0)]]
@@ -99,35 +98,14 @@ class EndedSessions(unittest.TestCase):
                 txs = [f"1.{10 * part + k}.7" for k in range(1, 11)]
                 client = Client(replica_ports(cls.session), 1, Load(txs))
                 assert asyncio.run(client.run(LIMIT)), client.summary()
-                asyncio.run(cls.wait_for_keys(part + 1))
+                asyncio.run(wait_for_keys(cls.session, N, part + 1))
                 closed = ended(cluster.main, "close", cls.at, "--wait", str(LIMIT))
                 assert closed[0] == Exit.STOPPED, closed
-            asyncio.run(cls.wait_for_accounts())
+            asyncio.run(wait_for_accounts(cls.folder, [0, 1]))
         finally:
             stop_all(cls.session)
             for process in started.values():
                 process.wait(LIMIT)
-
-    @classmethod
-    async def wait_for_keys(cls, session: int) -> None:
-        """Until the keys of all replicas are final for a session: each has a part in it, and so an
-        account."""
-        reader, writer = await replica_ports(cls.session)[0].open()
-        writer.write(b"follow 0\n")
-        batches: list[list[Tx]] = []
-        async with asyncio.timeout(LIMIT):
-            while None in agreed_keys(N, session, ["00" * KEY_BYTES], batches):
-                line = (await reader.readline()).decode()
-                assert line, "the replica has ended"
-                batches.append([tx_of_text(it) for it in line.split()[2:]])
-        writer.close()
-
-    @classmethod
-    async def wait_for_accounts(cls) -> None:
-        audits = Audits.of_folder(cls.folder)
-        async with asyncio.timeout(LIMIT):
-            while len(audits.paths(0)) + len(audits.paths(1)) < 2 * N:
-                await asyncio.sleep(0.2)
 
     def collected(self) -> Path:
         """A folder with what the operators give to an auditor of the two sessions."""
@@ -256,7 +234,7 @@ class EndedSessions(unittest.TestCase):
         report, _ = Chain(audits.cluster, carried).audit(accounts)
         self.assertEqual((report.verdict, report.faulty), ("yes", [3]))
         self.assertIn("carried over", report.unusable[3])
-        report, _ = Chain(audits.cluster, chain.link, [Tx(1, 3, 7)]).audit(accounts)
+        report, _ = Chain(audits.cluster, chain.link, [[Tx(1, 3, 7)]]).audit(accounts)
         self.assertIn("unchecked", report.verdict)
         self.assertIn("is final already", report.unusable[0])
 

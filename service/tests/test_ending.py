@@ -39,7 +39,7 @@ class EndRunning(unittest.TestCase):
 
     def play(
         self, found: list[Found], answers: dict[str, str], wait: float = 600.0,
-    ) -> tuple[tuple[int, int], list[list[str]]]:
+    ) -> tuple[tuple[int, int, bool], list[list[str]]]:
         """What comes of it where these are the statuses of five replicas, one list after the other,
         the last one again and again; and what each replica was ordered."""
         ports = [Played("", 0, Path(), None, Path(), answers) for _ in range(5)]
@@ -62,13 +62,22 @@ class EndRunning(unittest.TestCase):
             [new, new, opening, None, new],
             [new, new, new, at_stage(4, "out"), new],
         ], {"close 3": "ok"})
-        self.assertEqual(ended, (3, 40))
+        self.assertEqual(ended, (3, 40, True))
         self.assertEqual(ordered, [["close 3"], ["close 3"] * 2, ["close 3"], ["close 3"], []])
 
     def test_a_replica_that_takes_no_number(self) -> None:
         found: list[Found] = [[at_stage(0)] * 5, [at_stage(1)] * 5]
         ended, ordered = self.play(found, {"close": "ok"})
-        self.assertEqual((ended, ordered), ((0, 10), [["close 0", "close"]] * 5))
+        self.assertEqual((ended, ordered), ((0, 10, True), [["close 0", "close"]] * 5))
+
+    def test_the_last_one_ends_where_a_quorum_opens_none(self) -> None:
+        end = at_stage(1, "ended")
+        found: list[Found] = [
+            [at_stage(0)] * 5, [end, end, at_stage(1, "storing"), end, end],
+            [end, end, end, at_stage(1, "opening"), end], [end, end, end, at_stage(1), end],
+        ]
+        ended, _ = self.play(found, {"close 0": "ok"})
+        self.assertEqual(ended, (0, 10, False))
 
     def test_the_next_one_has_to_run(self) -> None:
         new = at_stage(1)
@@ -76,6 +85,7 @@ class EndRunning(unittest.TestCase):
             [at_stage(1, "marking"), new, new, new, new],
             [new, new, new, None, None],
             [at_stage(0), new, new, new, new],
+            [at_stage(1, "ended"), at_stage(1, "ended"), new, new, new],    # operators disagree
         ]
         for found in lacking:
             with self.assertRaises(ServiceError) as refused:

@@ -22,7 +22,7 @@ from service.program import TOP
 from service.session_faults import BRIEF, FAULTS, Faults
 from service.soak import Soak
 from service.tests import why_no_host, why_no_library
-from service.tests.test_chain import why_no_program
+from service.tests.endless import why_no_program
 
 LIMIT = 1800.0
 SESSIONS = 3        # that many end at least in the short form

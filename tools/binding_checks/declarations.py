@@ -32,6 +32,8 @@ HEADER_NAMES = {
     "handle": "replica", "at": "position", "public": "public_key", "publics": "public_keys",
     "commit": "commit_view",
 }
+HANDLES = {"Handle": "replica", "History": "history", "VerifierHandle": "verifier"}
+FREES = ("themis_free", "themis_history_free", "themis_verifier_free")
 HEADER_STANDINGS = {"FINAL": "SETTLED"}
 COUNT_NAME = re.compile(r"(\w+_)?(count|size|room)")
 
@@ -97,8 +99,8 @@ def element(text: str) -> str:
     """The type that a pointer leads to: `[u8; 48]` and `CTx` as `u8` and `tx`."""
     array = re.fullmatch(r"\[(\w+); \d+\]", text)
     name = array.group(1) if array else text
-    if name == "Handle":
-        return "replica"
+    if name in HANDLES:
+        return HANDLES[name]
     return name[1:].lower() if re.fullmatch(r"C[A-Z]\w*", name) else name
 
 
@@ -128,7 +130,7 @@ def declared_by_sources() -> Declared:
     out = Declared()
     text = "\n".join(path.read_text() for path in sorted(SOURCES.glob("*.rt")))
     for name, arguments, answers in EXPORT.findall(text):
-        if bool(answers) != (name != "themis_free"):
+        if bool(answers) == (name in FREES):
             raise Unreadable(f"what {name} answers")
         parts = split(re.sub(r"\s+", " ", arguments))
         out.functions[name] = [a for part in parts for a in arguments_of_rt(part)]
@@ -184,7 +186,7 @@ def declared_by_header() -> Declared:
     out = Declared()
     text = re.sub(r"/\*.*?\*/", "", HEADER.read_text(), flags=re.DOTALL)
     for answer, name, arguments in C_FUNCTION.findall(text):
-        if (answer == "void") != (name == "themis_free"):
+        if (answer == "void") != (name in FREES):
             raise Unreadable(f"what {name} answers in the header")
         parts = split(re.sub(r"\s+", " ", arguments))
         out.functions[name] = [argument_of_c(part) for part in parts]
@@ -194,7 +196,8 @@ def declared_by_header() -> Declared:
         name: numbers_of(re.findall(r"THEMIS_(\w+) = (\d+)", constants))
         for name, constants in C_ENUM.findall(text)
     }
-    out.statuses = {**numbers["status"], **numbers.get("audit_status", {})}
+    out.statuses = numbers["status"] | numbers["audit_status"] | numbers["history_status"]
+    out.statuses |= numbers["verifier_status"]
     out.reasons = numbers["reason"]
     out.taken, out.standings = numbers["taken"], numbers["standing"]
     out.heights = sorted(numbers["height"].values())
@@ -216,7 +219,7 @@ def type_of_ctypes(of: Any) -> str:
     target = getattr(of, "_type_", None)
     if isinstance(target, type):
         return f"{type_of_ctypes(target)}*"
-    return element(of.__name__) if of.__name__ != "CReplica" else "replica"
+    return element(of.__name__)
 
 
 def declared_by_python() -> Declared:
@@ -227,7 +230,8 @@ def declared_by_python() -> Declared:
     out = Declared()
     for function, arguments in library.DECLARATIONS.items():
         out.functions[function] = [Argument(name, type_of_ctypes(of)) for name, of in arguments]
-    for name in ("CReplica", "CRole", "CRun", "CTx", "CReceipt", "CFinding"):
+    structs = ("CReplica", "CRole", "CRun", "CTx", "CReceipt", "CFinding", "CHistory", "CVerifier")
+    for name in structs:
         fields = getattr(library, name)._fields_
         out.structs[name[1:].lower()] = [Argument(name, type_of_ctypes(of)) for name, of in fields]
     out.statuses = {status.name: status.value for status in themis.Status}
@@ -266,7 +270,7 @@ def declared_by_rust() -> Declared:
     out = Declared()
     text, values = (RUST / "c.rs").read_text(), (RUST / "values.rs").read_text()
     for name, arguments, answers in RUST_FUNCTION.findall(text):
-        if bool(answers) != (name != "themis_free"):
+        if bool(answers) == (name in FREES):
             raise Unreadable(f"what {name} answers in Rust")
         out.functions[name] = [argument_of_rust(part) for part in split(arguments)]
     for name, fields in RUST_STRUCT.findall(text):
@@ -340,7 +344,8 @@ def all_differences() -> list[str]:
     """The differences of all languages from the header, each with its language."""
     header = declared_by_header()
     sources = declared_by_sources()
-    sources.structs["replica"] = header.structs["replica"]  # the handle: compared by its pointers
+    for handle in HANDLES.values():     # compared by their pointers
+        sources.structs[handle] = header.structs[handle]
     languages = {
         "themis_c": sources, "Python": declared_by_python(), "Rust": declared_by_rust(),
     }

@@ -127,9 +127,9 @@ def wrong_exit_statuses() -> Iterator[str]:
 
 
 def wrong_statuses() -> Iterator[str]:
-    """Statuses of the C interface, those of an audit among them, in docs/EMBEDDING.md."""
+    """Statuses of the C interface, those of audits and histories too, in docs/EMBEDDING.md."""
     header = (TOP / "bindings/c/themis.h").read_text()
-    declared = re.findall(r"(?s)(?:enum themis_status|THEMIS_BAD_TRACE) .*?\}", header)
+    declared = re.findall(r"(?s)(?:enum themis_\w*status|THEMIS_BAD_TRACE) .*?\}", header)
     names = set(re.findall(r"THEMIS_(\w+) = ", " ".join(declared))) - {"OK"}
     part = part_of(EMBEDDING, "### What a host does with a status")
     rows = [line.split("|")[1] for line in part.splitlines() if line.startswith("| `")]

@@ -15,6 +15,8 @@ TRUST, ARCHITECTURE = TOP / "docs/TRUST.md", TOP / "docs/ARCHITECTURE.md"
 PROVED, DECISIONS = TOP / "docs/PROVED.md", TOP / "docs/DECISIONS.md"
 FORMATS, EMBEDDING = TOP / "docs/FORMATS.md", TOP / "docs/EMBEDDING.md"
 PROTOCOL, CONTRIBUTING = TOP / "docs/PROTOCOL.md", TOP / "CONTRIBUTING.md"
+SERVICE, HOSTING = TOP / "docs/SERVICE.md", TOP / "docs/HOSTING.md"
+TESTING = TOP / "docs/TESTING.md"
 EXAMPLES = TOP / "examples/README.md"
 PAGES = [
     README, CONTRIBUTING, EXAMPLES, TOP / "host/README.md", *sorted((TOP / "docs").glob("*.md")),

@@ -27,6 +27,10 @@ pub const UNLAWFUL: u32 = 20;
 pub const FORGED: u32 = 21;
 pub const COLLIDED: u32 = 22;
 pub const OTHER_RUN: u32 = 23;
+pub const ALREADY_FINAL: u32 = 24;
+pub const OTHER_MARKER: u32 = 25;
+pub const NOT_CARRIED: u32 = 26;
+pub const OTHER_VERIFIER: u32 = 27;
 
 /// `enum themis_taken`.
 pub mod taken {
@@ -48,6 +52,18 @@ pub mod standing {
 /// `themis_replica`: opaque; null, it holds no replica.
 #[repr(C)]
 pub struct CReplica {
+    pub at: *mut c_void,
+}
+
+/// `themis_history`: opaque; null, nothing is final in it.
+#[repr(C)]
+pub struct CHistory {
+    pub at: *mut c_void,
+}
+
+/// `themis_verifier`: opaque; null, it holds no verifier.
+#[repr(C)]
+pub struct CVerifier {
     pub at: *mut c_void,
 }
 
@@ -238,4 +254,48 @@ extern "C" {
         waiting: *mut usize,
         own: *mut u64,
     ) -> u32;
+    pub fn themis_history_add(
+        history: *mut CHistory,
+        session: u32,
+        batch: *const CTx,
+        count: usize,
+        ended: *mut u32,
+        position: *mut usize,
+    ) -> u32;
+    pub fn themis_history_check(
+        history: *mut CHistory,
+        session: u32,
+        before: *const CTx,
+        before_count: usize,
+        arrived: *const CTx,
+        arrived_count: usize,
+        position: *mut usize,
+    ) -> u32;
+    pub fn themis_history_carried(
+        history: *mut CHistory,
+        arrived: *const CTx,
+        arrived_count: usize,
+        into: *mut CTx,
+        room: usize,
+        count: *mut usize,
+    ) -> u32;
+    pub fn themis_history_free(history: *mut CHistory);
+    pub fn themis_verifier_new(
+        verifier: *mut CVerifier,
+        height: u32,
+        public_keys: *const u8,
+        key_count: usize,
+    ) -> u32;
+    pub fn themis_verify(
+        verifier: *mut CVerifier,
+        view: u32,
+        from: u32,
+        bytes: *const u8,
+        size: usize,
+        share: u32,
+        shares: u32,
+        kept: *mut usize,
+    ) -> u32;
+    pub fn themis_take_verified(replica: *mut CReplica, verifier: *mut CVerifier) -> u32;
+    pub fn themis_verifier_free(verifier: *mut CVerifier);
 }

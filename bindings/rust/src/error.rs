@@ -52,6 +52,20 @@ pub enum Error {
     OtherKeys,
     /// The trace has the auditor's public keys, and another setting, other views or another height.
     OtherRun,
+    /// A transaction is final already.
+    AlreadyFinal {
+        /// Its position in the list.
+        at: usize,
+    },
+    /// A transaction is of client 0, and not the marker of the session.
+    OtherMarker {
+        /// Its position in the list.
+        at: usize,
+    },
+    /// What is carried over does not arrive first, in its order.
+    NotCarried,
+    /// The verifier has other public keys than the replica, or keys of another height.
+    OtherVerifier,
     /// A status that this crate does not know: the library is newer.
     Unknown(u32),
 }
@@ -79,7 +93,18 @@ impl Error {
             c::AGAIN => Err(Error::Again),
             c::OTHER_KEYS => Err(Error::OtherKeys),
             c::OTHER_RUN => Err(Error::OtherRun),
+            c::NOT_CARRIED => Err(Error::NotCarried),
+            c::OTHER_VERIFIER => Err(Error::OtherVerifier),
             status => Err(Error::Unknown(status)),
+        }
+    }
+
+    /// The error of a status about a list, where `at` is the position that it means.
+    pub(crate) fn check_at(status: u32, at: usize) -> Result<(), Error> {
+        match status {
+            c::ALREADY_FINAL => Err(Error::AlreadyFinal { at }),
+            c::OTHER_MARKER => Err(Error::OtherMarker { at }),
+            status => Error::check(status),
         }
     }
 }
@@ -114,6 +139,17 @@ impl fmt::Display for Error {
             Error::OtherKeys => to.write_str("the trace has other public keys"),
             Error::OtherRun => {
                 to.write_str("the trace has another setting, other views or another height")
+            }
+            Error::AlreadyFinal { at } => {
+                write!(to, "the transaction at position {at} is final already")
+            }
+            Error::OtherMarker { at } => write!(
+                to,
+                "the transaction at position {at} is of client 0, and not the session's marker"
+            ),
+            Error::NotCarried => to.write_str("what is carried over does not arrive first"),
+            Error::OtherVerifier => {
+                to.write_str("the verifier has other public keys, or keys of another height")
             }
             Error::Unknown(status) => write!(to, "status {status}"),
         }

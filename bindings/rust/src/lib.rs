@@ -29,12 +29,16 @@
 
 mod c;
 mod error;
+mod history;
 mod receipts;
 mod values;
+mod verifier;
 
 pub use error::Error;
+pub use history::History;
 pub use receipts::{Arrivals, Held, Receipt, Standing, Taken};
 pub use values::{Audited, Finding, Height, Message, Place, Reason, Role, Run, Tx};
+pub use verifier::Verifier;
 
 use std::ptr::null_mut;
 

@@ -1,12 +1,12 @@
 //! Five replicas in one process, each with its log in memory: clients send transactions in two
-//! orders, some messages are lost, and one replica recovers from a torn log. And the mistakes of a
-//! host that the library can see.
+//! orders, some messages are lost, and one replica recovers from a torn log. Some replicas let
+//! verifiers check seals ahead. And the mistakes of a host that the library can see.
 
 use std::collections::VecDeque;
 use std::thread;
 use themis::{
     audit, public_key, Error, Finding, Height, Reason, Receipt, Replica, Role, Run, Standing,
-    Taken, Tx,
+    Taken, Tx, Verifier,
 };
 
 const N: u32 = 5;
@@ -14,6 +14,7 @@ const VIEWS: u32 = 20;
 const LOST_OF: usize = 61;
 const HEADER: usize = 76;
 const GARBAGE: &[u8] = b"no message";
+const SHARES: u32 = 3;
 const MOST_TOLD: usize = 100; // receipts at a time
 const NO_STAMP: u64 = 1 << 63; // no honest clock reaches it
 
@@ -69,6 +70,10 @@ struct Host {
     replica: Replica,
     arrived: Vec<Tx>,
     settled: usize,
+    /// One for each share of the seals; none where the replica checks all itself.
+    verifiers: Vec<Verifier>,
+    /// How many seals they accepted.
+    verified: usize,
 }
 
 impl Host {
@@ -88,6 +93,8 @@ impl Host {
             replica,
             arrived,
             settled: 0,
+            verifiers: verifiers(me, keys),
+            verified: 0,
         };
         host.settle();
         for tx in &host.arrived {
@@ -137,10 +144,31 @@ impl Host {
         }
     }
 
+    /// Verifiers check the seals of a message, each a share on a thread of its own.
+    fn verify(&mut self, from: u32, bytes: &[u8]) {
+        let (view, _) = self.replica.views().unwrap();
+        let kept = thread::scope(|threads| {
+            let check = |(share, verifier): (u32, &mut Verifier)| {
+                verifier.verify(view, from, bytes, (share, SHARES)).unwrap()
+            };
+            let checks = (0..).zip(&mut self.verifiers);
+            let running: Vec<_> = checks.map(|it| threads.spawn(move || check(it))).collect();
+            running
+                .into_iter()
+                .map(|it| it.join().unwrap())
+                .sum::<usize>()
+        });
+        self.verified += kept;
+        for verifier in &mut self.verifiers {
+            self.replica.take_verified(verifier).unwrap();
+        }
+    }
+
     fn prepare(&mut self, event: &Event) {
         let record = match event {
             Event::Arrived(txs) => self.replica.prepare_arrived(txs),
             Event::Delivered { from, bytes } => {
+                self.verify(*from, bytes);
                 let changes = self.replica.would_change(*from, bytes);
                 let record = self.replica.prepare_deliver(*from, bytes);
                 assert_eq!(changes, Ok(record != Ok(Vec::new())));
@@ -211,6 +239,14 @@ impl Host {
     }
 }
 
+/// The replicas with odd numbers let verifiers check seals.
+fn verifiers(me: u32, keys: &[[u8; 60]]) -> Vec<Verifier> {
+    let count = if me % 2 == 1 { SHARES } else { 0 };
+    (0..count)
+        .map(|_| Verifier::new(Height::H5H5, keys).unwrap())
+        .collect()
+}
+
 fn deliver_all(hosts: &mut [Host], sent: Vec<Envelope>, carried: &mut usize) {
     let mut queue = VecDeque::from(sent);
     while let Some(Envelope { from, to, bytes }) = queue.pop_front() {
@@ -272,6 +308,9 @@ fn five_replicas_agree() {
         }
     }
     bring_level(&mut hosts);
+    for host in &hosts {
+        assert_eq!(host.verified > 0, host.me % 2 == 1);
+    }
     for Host { replica, .. } in &mut hosts {
         assert_eq!(replica.known(), Ok(4));
         assert!(TXS.iter().all(|tx| replica.is_proposed(tx).unwrap()));
@@ -326,6 +365,8 @@ fn mistakes_are_answered() {
     assert_eq!(replica.standing(&TXS[0]), Ok(Standing::Unknown));
     assert_eq!(replica.accepted(GARBAGE), Ok(false));
     assert_eq!(replica.arrive_proposed(), Ok(Vec::new()));
+    let mut other = Verifier::new(Height::H5H5, &keys[1..]).unwrap();
+    assert_eq!(replica.take_verified(&mut other), Err(Error::OtherVerifier));
 }
 
 #[test]

@@ -1,5 +1,5 @@
 -- The steps of one pass, in sequence, give the answer for an entry and the state after it.
-use Rattle.std.proofs.Common.{◌≡◌, ℕ, ◌+◌, List, [], ◌∷◌, length, Bool, true, false, ◌&&◌, ◌==◌, Some, refl, ap, ◌∙◌}
+use Rattle.std.proofs.Common.{◌≡◌, ℕ, ◌+◌, List, length, Bool, true, false, ◌&&◌, ◌==◌, Some, refl, ap, ◌∙◌}
 use Rattle.std.specs.Prelude.{nat_le, if◌then◌else◌}
 use Rattle.std.specs.List.{list_all}
 use Rattle.std.specs.Cmp.{unsigned_Decides}
@@ -21,6 +21,7 @@ use Rattle.audit_core.specs.Judging.{goes_on, takes_on, rule_on, next_on}
 use Rattle.audit_core.specs.Marking.{marked}
 use Rattle.audit_core.specs.Sets.{voters_of}
 use Rattle.audit_core.specs.Voting.{vote_on, last_view}
+use Rattle.run_record.proofs.Dues.{same_all}
 
 -- with another count, other marks and another last vote
 abbrev pub moved : Audited → ℕ → List (ℕ × ℕ) → ℕ → Audited
@@ -46,13 +47,9 @@ vote_moved (carried.Cert view block) j kept marks voted v = refl
 vote_moved (carried.Block digest block proposed) j kept marks voted v = refl
 vote_moved (carried.Vote replica view block) j kept marks voted v = refl
 
-all_same : {X : Type 0} (p q : X → Bool) (xs : List X) → ((x : X) → p x ≡ q x) → list_all p xs ≡ list_all q xs
-all_same p q [] same = refl
-all_same p q (x ∷ xs) same = ap (λ (t : Bool). t && list_all p xs) (same x) ∙ ap (λ (t : Bool). q x && t) (all_same p q xs same)
-
 pub votes_moved : (b : Carried) (j : Audited) (kept : ℕ) (marks : List (ℕ × ℕ)) (voted : ℕ) (votes : List Ballot)
     → list_all (vote_on (moved j kept marks voted) b) votes ≡ list_all (vote_on j b) votes
-votes_moved b j kept marks voted votes = all_same (vote_on (moved j kept marks voted) b) (vote_on j b) votes (vote_moved b j kept marks voted)
+votes_moved b j kept marks voted votes = same_all (vote_on (moved j kept marks voted) b) (vote_on j b) (vote_moved b j kept marks voted) votes
 
 -- ---- the rules, in sequence
 

@@ -1,5 +1,6 @@
 -- Rules 3 and 5, on the state of one pass.
-use Rattle.std.proofs.Common.{◌≡◌, ℕ, List, [], ◌∷◌, map, take, get_or, Bool, true, false, cond, ◌&&◌, ◌||◌, ◌==◌, Option, Some, None, is_some, refl, sym, ap, subst, ◌∙◌, inl, inr}
+use Rattle.std.proofs.Common.{◌≡◌, ℕ, List, [], map, take, get_or, Bool, true, false, cond, ◌&&◌, ◌||◌, ◌==◌, Option, Some, None, is_some, refl, sym, ap, subst, ◌∙◌, inl, inr}
+use Rattle.std.proofs.lemmas.Bool.Decides.{same_from_decides}
 use Rattle.std.specs.Prelude.{not}
 use Rattle.std.specs.List.{list_all, filter_map}
 use Rattle.std.specs.Option.{option_map}
@@ -36,12 +37,8 @@ use Rattle.audit_core.specs.Judging.{drawn_on, are_drawn, votes_on}
 use Rattle.audit_core.specs.Stands.{Stands}
 use Rattle.audit_core.specs.Voting.{vote_on}
 use Rattle.audit_core.proofs.EntryTests.{safe_reported}
-use Rattle.audit_core.proofs.KnownArrivals.{decided}
 use Rattle.audit_core.proofs.StoreRules.{state_shows}
-
-list_same : {X : Type 0} (p q : X → Bool) (xs : List X) → ((x : X) → p x ≡ q x) → list_all p xs ≡ list_all q xs
-list_same p q [] same = refl
-list_same p q (x ∷ xs) same = ap (λ (t : Bool). t && list_all p xs) (same x) ∙ ap (λ (t : Bool). q x && t) (list_same p q xs same)
+use Rattle.run_record.proofs.Dues.{same_all}
 
 and_on : (h k a b : Bool) → h ≡ k → (h ≡ true → a ≡ b) → (h && a) ≡ (k && b)
 and_on true k a b same on = on refl ∙ ap (λ (t : Bool). t && b) same
@@ -74,9 +71,9 @@ module _ (one_more : StandsForOneMore) (by : Scale) (before : List Entry) (e : E
           (state_shows store (up_to before e) tied one_more by.setting led (parent_named statement) n found)
 
   pub draws_reported : are_drawn (record { setting = by.setting; blocks = store }) (take e.turned.kept by.arrivals) e.turned.sealed ≡ draws by before e
-  draws_reported = list_same (λ statement. not (get_or statement 0 0 == ORDER) || drawn_on (record { setting = by.setting; blocks = store }) (take e.turned.kept by.arrivals) statement)
-      (λ statement. not (get_or statement 0 0 == ORDER) || is_drawn by before e statement) e.turned.sealed
-      (λ statement. ap (λ (t : Bool). not (get_or statement 0 0 == ORDER) || t) (drawn_reported statement))
+  draws_reported = same_all (λ statement. not (get_or statement 0 0 == ORDER) || drawn_on (record { setting = by.setting; blocks = store }) (take e.turned.kept by.arrivals) statement)
+      (λ statement. not (get_or statement 0 0 == ORDER) || is_drawn by before e statement)
+      (λ statement. ap (λ (t : Bool). not (get_or statement 0 0 == ORDER) || t) (drawn_reported statement)) e.turned.sealed
 
 -- what a prefix stored is found in the store, with its view
 pub stored_with : (store : List Block) (before : List Entry) → IsTied store (stored_in before) → (d : Digest) (v : ℕ) → IsStored (map shown before) d v → (n : Named) × (at store d ≡ Some n) × (n.view ≡ v)
@@ -91,9 +88,9 @@ module _ (by : Scale) (before : List Entry) (j : Audited) (stands : Stands by be
     (reach : (child ancestor : Digest) → is_stored j.store child ≡ true → Extends j.store child ancestor → extends j.store child ancestor ≡ true) where
   pub votes_reported : votes_on j e ≡ votes by before e
   votes_reported = elim (cases_Bool (is_done e.turned.reason)) [
-    | inl done ↦ list_same (vote_on j (carried_in e)) (is_vote_for (stored_in before) (lock_in by.setting before) (shown e).message) (ballots_by e)
+    | inl done ↦ same_all (vote_on j (carried_in e)) (is_vote_for (stored_in before) (lock_in by.setting before) (shown e).message)
         (subst (λ (t : Bool). (v : Ballot) → vote_on j (carried_if t (message_in e.event)) v ≡ is_vote_for (stored_in before) (lock_in by.setting before) (shown_message (message_in e.event)) v) (sym done)
-        (by_message (message_in e.event) refl done))
+        (by_message (message_in e.event) refl done)) (ballots_by e)
     | inr idle ↦
         let none : ballots_by e ≡ [] = ap (filter_map ballot_in) (takes.idle idle).1 in
         subst (λ (vs : List Ballot). list_all (vote_on j (carried_in e)) vs ≡ list_all (is_vote_for (stored_in before) (lock_in by.setting before) (shown e).message) vs) (sym none) refl
@@ -112,7 +109,7 @@ module _ (by : Scale) (before : List Entry) (j : Audited) (stands : Stands by be
           let safe = stands.ties.safe_tied in
           let p = stored_there j.store before safe.stores b.cert.block b.cert.view valid.parent in
           ap (λ (t : Bool). digest_eq v.block (block_digest b) && ((v.view == b.view) && t))
-          (decided (is_safe j.store j.safety b) (is_safe_by (stored_in before) (named b) (lock_in by.setting before)) _
+          (same_from_decides (is_safe j.store j.safety b) (is_safe_by (stored_in before) (named b) (lock_in by.setting before))
           (safe_reported by before j stands e reach b p.0 alone p.1)
           (safe_decides by before kept (named b) valid alone))
       by_message (Some (Vote voted)) is done v = refl

@@ -2,9 +2,8 @@
 use Rattle.std.proofs.Common.{◌≡◌, ℕ, ◌+◌, ◌≤◌, ◌<◌, List, [], ◌∷◌, ◌++◌, length, take, drop, slice_index_or, Option, Some, None, refl, sym, ap, subst, ◌∙◌, arith, append_assoc}
 use Rattle.std.specs.Option.{option_map, option_or}
 use Rattle.std.proofs.Math.Numerals.{suc-eq-add-one}
-use Rattle.std.proofs.Math.ListN.{drop_of_length-le}
 use Rattle.std.proofs.Math.Seq.{take-suc}
-use Rattle.std.proofs.lemmas.List.{append-nil, length-take-le, take-append-drop}
+use Rattle.std.proofs.lemmas.List.{append-nil, length-take-le, take-append-drop, take_all}
 use Rattle.node_core.specs.declared.entry.Entry.{Entry}
 use Rattle.run_record.specs.declared.record.RunRecord.{RunRecord}
 use Rattle.node_core.specs.Rows.{Check}
@@ -79,13 +78,9 @@ pub as_far_at_first : (by : Scale) (entries : List Entry) (j : Audited) → HasA
 unfolding broken_from
 as_far_at_first by entries j audited = record { audited = audited; clean = refl }
 
-pub take_past : (entries : List Entry) (at : ℕ) → length entries ≤ at → take at entries ≡ entries
-take_past entries at past =
-    sym (append-nil (take at entries)) ∙ ap (λ (rest : List Entry). take at entries ++ rest) (sym (drop_of_length-le entries past)) ∙ take-append-drop at entries
-
 pub audited_all : (by : Scale) (entries : List Entry) (at : ℕ) (j : Audited) → length entries ≤ at → AsFar by entries at j → HasAudited by entries j × (first_broken by entries ≡ None)
 audited_all by entries at j past far =
-    (subst (λ (prefix : List Entry). HasAudited by prefix j) (take_past entries at past) far.audited, ap (first_broken by) (sym (take_past entries at past)) ∙ far.clean)
+    (subst (λ (prefix : List Entry). HasAudited by prefix j) (take_all at entries past) far.audited, ap (first_broken by) (sym (take_all at entries past)) ∙ far.clean)
 
 -- ---- a replica's part of the record
 

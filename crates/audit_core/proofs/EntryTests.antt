@@ -4,7 +4,7 @@ use Rattle.std.specs.Prelude.{All, not, nat_lt, if◌then◌else◌}
 use Rattle.std.specs.List.{AllPairs, list_all}
 use Rattle.std.specs.Bool.{Decides}
 use Rattle.std.specs.Cmp.Lexicographic.{pointwise}
-use Rattle.std.proofs.lemmas.Bool.Decides.{Decides-not, Decides-or, Decides-ltb}
+use Rattle.std.proofs.lemmas.Bool.Decides.{Decides-ltb, Decides-not, Decides-or, same_from_decides}
 use Rattle.std.proofs.lemmas.Option.{same_Some}
 use Rattle.std.proofs.lemmas.Grind.{flat_map-append}
 use Rattle.std.proofs.lemmas.List.{append-nil, map-append}
@@ -48,7 +48,7 @@ use Rattle.audit_core.specs.Marking.{are_new}
 use Rattle.audit_core.specs.Stands.{Stands}
 use Rattle.audit_core.specs.Valid.{has_view, cert_on, order_on, valid_on}
 use Rattle.audit_core.specs.Voting.{rises_from}
-use Rattle.audit_core.proofs.KnownArrivals.{decided, goes_on_shows}
+use Rattle.audit_core.proofs.KnownArrivals.{goes_on_shows}
 use Rattle.audit_core.proofs.StoreRules.{view_shows, state_shows, found_when, safe_from, safe_when}
 use Rattle.audit_core.proofs.AscendingMarks.{rises_show, marks_show}
 
@@ -115,8 +115,9 @@ module _ (by : Scale) (before : List Entry) (j : Audited) (stands : Stands by be
   pub rises_reported : rises_on j e ≡ rises by before e
   rises_reported =
       ap (λ (v : ℕ). rises_from v j.safety.voted (ballots_by e)) (at_view j.store j.safety.lock (lock_in by.setting before) stands.ties.safe_tied.at_lock)
-      ∙ decided (rises_from (lock_in by.setting before).view j.safety.voted (ballots_by e)) (rises by before e)
-      (AllPairs (λ earlier later. earlier.view < later.view) (ballots_in (map shown before) ++ ballots_by e) × All (λ v. (lock_in by.setting before).view < v.view) (ballots_by e))
+      ∙ same_from_decides
+      {P = AllPairs (λ earlier later. earlier.view < later.view) (ballots_in (map shown before) ++ ballots_by e) × All (λ v. (lock_in by.setting before).view < v.view) (ballots_by e)}
+      (rises_from (lock_in by.setting before).view j.safety.voted (ballots_by e)) (rises by before e)
       (rises_show (lock_in by.setting before).view j.safety.voted (ballots_in (map shown before)) (ballots_by e) stands.voted stands.rise)
       (subst (λ (vs : List Ballot). Decides (rises by before e) (AllPairs (λ earlier later. earlier.view < later.view) vs × All (λ v. (lock_in by.setting before).view < v.view) (ballots_by e))) ballots_more four)
     where
@@ -127,7 +128,8 @@ module _ (by : Scale) (before : List Entry) (j : Audited) (stands : Stands by be
 
   pub marks_reported : are_new j.marks (marks_in e.turned.sealed) ≡ are_apart (marks_in (sealed_in (up_to before e)))
   marks_reported =
-      decided (are_new j.marks (marks_in e.turned.sealed)) (are_apart (marks_in (sealed_in (up_to before e)))) (AllPairs (λ a b. a ≢ b) (marks_in (sealed_in before) ++ marks_in e.turned.sealed))
+      same_from_decides {P = AllPairs (λ a b. a ≢ b) (marks_in (sealed_in before) ++ marks_in e.turned.sealed)}
+      (are_new j.marks (marks_in e.turned.sealed)) (are_apart (marks_in (sealed_in (up_to before e))))
       (marks_show j.marks (marks_in (sealed_in before)) (marks_in e.turned.sealed) stands.marks stands.apart)
       (subst (λ (ms : List Mark). Decides (are_apart ms) (AllPairs (λ a b. a ≢ b) (marks_in (sealed_in before) ++ marks_in e.turned.sealed))) (sym marks_more)
       (pairs_decide (λ (a b : Mark). not (mark_eq a b)) (λ a b. a ≢ b) (λ a b. Decides-not (mark_eq a b) (mark_decides a b)) (marks_in (sealed_in before) ++ marks_in e.turned.sealed)))
@@ -181,7 +183,7 @@ module _ (by : Scale) (before : List Entry) (j : Audited) (stands : Stands by be
 
   block_alone : (b : Block) → not (clashes j.store (block_digest b) b) ≡ stands_alone before (Some (named b))
   block_alone b =
-      decided (not (clashes j.store (block_digest b) b)) (stands_alone before (Some (named b))) (StandsAlone before (named b)) (alone_shows j.store before stands.ties.safe_tied.stores b)
+      same_from_decides {P = StandsAlone before (named b)} (not (clashes j.store (block_digest b) b)) (stands_alone before (Some (named b))) (alone_shows j.store before stands.ties.safe_tied.stores b)
       (restate (stands_alone before (Some (named b))) (alone_decides before (Some (named b))) (λ each. each (named b) refl)
       (λ alone c is. subst (StandsAlone before) (same_Some (named b) c is) alone))
 

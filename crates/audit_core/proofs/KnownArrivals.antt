@@ -1,20 +1,12 @@
 -- Rule 1, on the state of one pass.
-use Rattle.std.proofs.Common.{◌≡◌, ℕ, suc, ◌+◌, List, [], ◌∷◌, ◌++◌, length, take, drop, Bool, true, false, ◌&&◌, ◌==◌, refl, sym, ap, ◌∙◌, arith}
+use Rattle.std.proofs.Common.{◌≡◌, ℕ, suc, ◌+◌, List, [], ◌∷◌, ◌++◌, length, take, drop, ◌&&◌, ◌==◌, sym, ap, ◌∙◌, arith}
 use Rattle.std.specs.Cmp.Lexicographic.{pointwise, pointwise_decides}
-use Rattle.std.specs.Bool.{Decides}
 use Rattle.std.specs.Cmp.{unsigned_Decides}
-use Rattle.std.proofs.lemmas.Bool.Decides.{Decides-and}
+use Rattle.std.proofs.lemmas.Bool.Decides.{Decides-and, same_from_decides}
 use Rattle.std.proofs.lemmas.List.{append_cancel_left, length-append}
 use Rattle.seq_base.specs.declared.tx.Tx.{Tx}
 use Rattle.seq_base.specs.Tx.{tx_eq, tx_eq_decides}
 use Rattle.audit_core.specs.Judging.{goes_on}
-
--- two tests that decide the same claim are equal
-pub decided : (t u : Bool) (P : Type 0) → Decides t P → Decides u P → t ≡ u
-decided true true P one other = refl
-decided false false P one other = refl
-decided true false P one other = sym (other.1 (one.0 refl))
-decided false true P one other = one.1 (other.0 refl)
 
 -- the prefix of a list, and its next elements
 take_more : {X : Type 0} (xs prefix : List X) (n : ℕ) → prefix ≡ take (length prefix) xs → take (length prefix + n) xs ≡ prefix ++ take n (drop (length prefix) xs)
@@ -30,8 +22,8 @@ take_more {X} (x ∷ xs) (f ∷ prefix) n is =
 pub goes_on_shows : (arrivals prefix list : List Tx) (kept : ℕ) → prefix ≡ take (length prefix) arrivals
     → goes_on arrivals (length prefix) kept list ≡ (pointwise tx_eq (prefix ++ list) (take kept arrivals) && (kept == length (prefix ++ list)))
 goes_on_shows arrivals prefix list kept begins =
-    decided (goes_on arrivals (length prefix) kept list) (pointwise tx_eq (prefix ++ list) (take kept arrivals) && (kept == length (prefix ++ list)))
-    ((kept ≡ length prefix + length list) × (list ≡ take (length list) (drop (length prefix) arrivals)))
+    same_from_decides {P = (kept ≡ length prefix + length list) × (list ≡ take (length list) (drop (length prefix) arrivals))}
+    (goes_on arrivals (length prefix) kept list) (pointwise tx_eq (prefix ++ list) (take kept arrivals) && (kept == length (prefix ++ list)))
     (Decides-and (kept == length prefix + length list) (pointwise tx_eq list (take (length list) (drop (length prefix) arrivals)))
     (unsigned_Decides kept (length prefix + length list)) (pointwise_decides tx_eq_decides list (take (length list) (drop (length prefix) arrivals))))
     (let other = Decides-and (pointwise tx_eq (prefix ++ list) (take kept arrivals)) (kept == length (prefix ++ list)) (pointwise_decides tx_eq_decides (prefix ++ list) (take kept arrivals)) (unsigned_Decides kept (length (prefix ++ list))) in

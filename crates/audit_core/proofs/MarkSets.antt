@@ -33,10 +33,10 @@ mark_sym m n = by (mark_eq m n) (mark_eq n m) refl refl
     by true false is_t is_u = absurd (both_ways (mark_eq n m) is_u ((mark_decides n m).1 (sym ((mark_decides m n).0 is_t))))
     by false true is_t is_u = absurd (both_ways (mark_eq m n) is_t ((mark_decides m n).1 (sym ((mark_decides n m).0 is_u))))
 
-swap : (a b c : Bool) → (a || (b || c)) ≡ (b || (a || c))
-swap true true c = refl
-swap true false c = refl
-swap false b c = refl
+pub or_swap : (a b c : Bool) → (a || (b || c)) ≡ (b || (a || c))
+or_swap true true c = refl
+or_swap true false c = refl
+or_swap false b c = refl
 
 -- One more mark is found, and all those before.
 pub one_mark_more : (met : List (ℕ × ℕ)) (m n : Mark) → has_mark (with_mark m met) n ≡ (mark_eq m n || has_mark met n)
@@ -55,7 +55,7 @@ one_mark_more (x ∷ met) m n = by (pair_cmp (m.kind, m.view) x) refl (one_mark_
         let eq : m ≡ mark x.0 x.1 = (mark_decides m (mark x.0 x.1)).0 same in
         let here : is_at (pair_cmp (n.kind, n.view)) x ≡ mark_eq m n = at_mark n (mark x.0 x.1) ∙ mark_sym n (mark x.0 x.1) ∙ ap (λ (k : Mark). mark_eq k n) (sym eq) in
         ap (λ (t : Bool). t || has_mark met n) here ∙ twice (mark_eq m n) (has_mark met n) ∙ ap (λ (t : Bool). mark_eq m n || (t || has_mark met n)) (sym here)
-    by Greater is on = ap (λ (t : Bool). is_at (pair_cmp (n.kind, n.view)) x || t) on ∙ swap (is_at (pair_cmp (n.kind, n.view)) x) (mark_eq m n) (has_mark met n)
+    by Greater is on = ap (λ (t : Bool). is_at (pair_cmp (n.kind, n.view)) x || t) on ∙ or_swap (is_at (pair_cmp (n.kind, n.view)) x) (mark_eq m n) (has_mark met n)
 
 -- ---- voters
 

@@ -1,5 +1,6 @@
 -- Statements one after the other: the first one, and the rest after it.
 use Rattle.std.proofs.Common.{◌≡◌, ℕ, ◌+◌, ◌<◌, ◌≤◌, List, [], ◌∷◌, length, take, drop, get_or, Bool, true, false, ◌&&◌, Option, Some, None, refl, ap, arith}
+use Rattle.std.proofs.lemmas.Bool.{and_parts}
 use Rattle.std.specs.Prelude.{nat_le, ◌==◌, if◌then◌else◌}
 use Rattle.std.specs.List.{list_all}
 use Rattle.std.specs.Option.{option_map_or}
@@ -77,19 +78,15 @@ too_short list rest few = by (pointwise tx_eq list (take (length list) rest)) re
         absurd (omega (arith, few, count, length-take (length list) rest))
     by false is = refl
 
-both_of : (t u : Bool) → (t && u) ≡ true → (t ≡ true) × (u ≡ true)
-both_of true u is = (refl, is)
-both_of false u is = absurd (cc)
-
 -- If a list continues the arrivals, as many are known as arrived, and no more than there are.
 pub kept_sum : (arrivals : List Tx) (from kept : ℕ) (list : List Tx) → goes_on arrivals from kept list ≡ true → kept ≡ from + length list
-kept_sum arrivals from kept list is = (unsigned_Decides kept (from + length list)).0 (both_of (kept == from + length list) (pointwise tx_eq list (take (length list) (drop from arrivals))) is).0
+kept_sum arrivals from kept list is = (unsigned_Decides kept (from + length list)).0 (and_parts (kept == from + length list) (pointwise tx_eq list (take (length list) (drop from arrivals))) is).0
 
 pub kept_within : (arrivals : List Tx) (from kept : ℕ) (list : List Tx) → goes_on arrivals from kept list ≡ true → from ≤ length arrivals → kept ≤ length arrivals
 kept_within arrivals from kept list is low =
     let sum = kept_sum arrivals from kept list is in
     let same : list ≡ take (length list) (drop from arrivals) =
-    (pointwise_decides tx_eq_decides list (take (length list) (drop from arrivals))).0 (both_of (kept == from + length list) (pointwise tx_eq list (take (length list) (drop from arrivals))) is).1 in
+    (pointwise_decides tx_eq_decides list (take (length list) (drop from arrivals))).0 (and_parts (kept == from + length list) (pointwise tx_eq list (take (length list) (drop from arrivals))) is).1 in
     let count : length list ≡ length (take (length list) (drop from arrivals)) = ap (λ (ts : List Tx). length ts) same in
     omega (arith, sum, low, count, length-take (length list) (drop from arrivals), length-drop from arrivals)
 

@@ -1,5 +1,6 @@
 -- The answers of the steps of one pass, by the results of its tests.
 use Rattle.std.proofs.Common.{◌≡◌, ℕ, ◌+◌, List, [], ◌∷◌, length, take, Bool, true, false, ◌&&◌, Option, Some, None, Result, Ok, Err, is_some, ◌||◌, ◌==◌, refl, sym, ap, subst, ◌∙◌}
+use Rattle.std.proofs.lemmas.Bool.{and_parts}
 use Rattle.std.specs.Prelude.{IfOk, IfSome, IfNone, not, if◌then◌else◌}
 use Rattle.std.specs.List.{list_all}
 use Rattle.std.specs.Option.{option_map, option_map_or}
@@ -71,10 +72,6 @@ module _ (fits : Check) (s : Stored) (c : Block) where
       some true true yes_t not_u = absurd (cc)
       some false u yes_t not_u = absurd (cc)
 
-  parts : (t u : Bool) → (t && u) ≡ true → (t ≡ true) × (u ≡ true)
-  parts true u is = (refl, is)
-  parts false u is = absurd (cc)
-
   -- what has a view is stored
   stored_there : (d : Digest) (v : ℕ) → has_view s.blocks d v ≡ true → is_stored s.blocks d ≡ true
   stored_there d v has = by (digest_eq d first_digest) (block_at s.blocks d) has
@@ -89,7 +86,7 @@ module _ (fits : Check) (s : Stored) (c : Block) where
   block_taken b d store is_b is_d is_s valid alone within = (
     within,
     is_d ∙ ap block_digest (sym is_b),
-    ap (λ (x : Block). is_stored s.blocks x.cert.block) is_b ∙ stored_there c.cert.block c.cert.view (parts (has_view s.blocks c.cert.block c.cert.view) _ (parts _ _ (parts _ _ (parts _ _ (parts _ _ valid).0).1).1).0).0,
+    ap (λ (x : Block). is_stored s.blocks x.cert.block) is_b ∙ stored_there c.cert.block c.cert.view (and_parts (has_view s.blocks c.cert.block c.cert.view) _ (and_parts _ _ (and_parts _ _ (and_parts _ _ (and_parts _ _ valid).0).1).1).0).0,
     ap (λ (bs : List Block). clashes bs d b) (sym is_s) ∙ alone,
   )
 

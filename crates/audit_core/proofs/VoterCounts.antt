@@ -15,12 +15,7 @@ use Rattle.journal_rules.proofs.Voters.{IsOneMore, voters_same, voters_more}
 use Rattle.audit_core.specs.Bringing.{add_voter}
 use Rattle.audit_core.specs.Stands.{AreAlike, VotesTied}
 use Rattle.audit_core.proofs.NextState.{alike, voters_met}
-use Rattle.audit_core.proofs.MarkSets.{counted_by}
-
-turn : (a b c : Bool) → (a || (b || c)) ≡ (b || (a || c))
-turn true true c = refl
-turn true false c = refl
-turn false b c = refl
+use Rattle.audit_core.proofs.MarkSets.{counted_by, or_swap}
 
 with_more : (r : ℕ) (xs : List ℕ) → is_among xs r ≡ false → IsOneMore r xs (with_replica r xs)
 with_more r [] none = record { one = refl; among = λ q. refl }
@@ -34,7 +29,7 @@ with_more r (x ∷ xs) none = by (nat_lt r x) (r == x) refl (x == r) refl none (
     by false false is_u true is_w fresh on = absurd (cc)
     by false false is_u false is_w fresh on =
         let more : IsOneMore r xs (with_replica r xs) = on fresh in
-        record { one = (let c : length (with_replica r xs) ≡ length xs + 1 = more.one in omega (arith, c)); among = λ q. ap (λ (t : Bool). (x == q) || t) (more.among q) ∙ turn (x == q) (r == q) (is_among xs q) }
+        record { one = (let c : length (with_replica r xs) ≡ length xs + 1 = more.one in omega (arith, c)); among = λ q. ap (λ (t : Bool). (x == q) || t) (more.among q) ∙ or_swap (x == q) (r == q) (is_among xs q) }
 
 more_alike : (r : ℕ) (one other one_more other_more : List ℕ) → AreAlike one other → IsOneMore r one one_more → IsOneMore r other other_more → AreAlike one_more other_more
 more_alike r one other one_more other_more same a b = record {

@@ -18,10 +18,7 @@ use Rattle.fair_update.specs.Waiting.{waits, Waits, is_complete}
 use Rattle.fair_update.proofs.GraphTests.{waits_decides, complete_decides}
 use Rattle.chain_state.specs.Lists.{BlockLists}
 use Rattle.chain_state.specs.Proposals.{graph_over, proposals, used_in, waiting_in, final_batches, final_of, IsUsed, IsWaiting, AreFinalBatches}
-use Rattle.chain_state.proofs.Tables.{IsGraph-graph_over}
-
-abbrev late_of : BlockLists → List (List Tx)
-late_of b = b.late
+use Rattle.chain_state.proofs.Tables.{late_of, IsGraph-graph_over}
 
 -- what the fresh lists keep, with the edges of a chain, is a graph
 pub proposal_is_graph : (s : Parameters) (b : BlockLists) (later : List BlockLists) → AreFresh b.fresh → IsGraph (graph_over s (kept_by s b.fresh) (b.fresh ∷ map late_of later))

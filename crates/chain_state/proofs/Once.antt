@@ -24,12 +24,10 @@ use Rattle.chain_state.specs.Valid.{IsValidOver, AreValidAfter, IsValidChain}
 use Rattle.chain_state.proofs.Parts.{distinct-append, holds-joined, batches_distinct, batches_hold}
 use Rattle.chain_state.proofs.Meanings.{proposal_is_graph}
 use Rattle.chain_state.proofs.Steps.{used_in-more}
+use Rattle.chain_state.proofs.Tables.{late_of}
 
 abbrev batch_of : List Tx → List Tx
 batch_of batch = batch
-
-abbrev late_of : BlockLists → List (List Tx)
-late_of b = b.late
 
 -- lists whose transactions all have a property do not hold one without it
 none_held : (P : Tx → Type 0) (t : Tx) (xs : List Tx) → (P t → ⊥) → AllByRecursion P xs → holds t xs ≡ false

@@ -45,7 +45,7 @@ all_on s late (g ∷ gs) all =
     ap (λ (x : Stage). x ∷ map stage_of (map (updated s late) gs)) (one_on s late g all.0)
     ∙ ap (λ (rest : List Stage). next_stage s late (stage_of g) ∷ rest) (all_on s late gs all.1)
 
-abbrev with_stages : Parameters → List Stage → Standings
+abbrev pub with_stages : Parameters → List Stage → Standings
 with_stages s stages = record { setting = s; stages = stages }
 
 -- one more block

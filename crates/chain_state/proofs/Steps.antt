@@ -16,10 +16,7 @@ use Rattle.fair_update.specs.Updates.{updated}
 use Rattle.fair_update.specs.Waiting.{is_complete}
 use Rattle.chain_state.specs.Lists.{BlockLists}
 use Rattle.chain_state.specs.Proposals.{graph_over, proposals, used_in, final_of}
-use Rattle.chain_state.proofs.Tables.{graph_over-one, updated_is, graph_over-stays}
-
-abbrev late_of : BlockLists → List (List Tx)
-late_of b = b.late
+use Rattle.chain_state.proofs.Tables.{late_of, graph_over-one, updated_is, graph_over-stays}
 
 -- one more block updates the proposals before it, and adds its own
 pub proposals-more : (s : Parameters) (chain : List BlockLists) (b : BlockLists)

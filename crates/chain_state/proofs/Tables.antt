@@ -15,22 +15,24 @@ use Rattle.seq_base.proofs.Members.{any_tx}
 use Rattle.majority_graph.specs.declared.edge.Edge.{Edge}
 use Rattle.majority_graph.specs.declared.edge.Edge.TheVariants.{To, From, Missing}
 use Rattle.majority_graph.specs.Edges.{edge_between, opposite_of}
-use Rattle.majority_graph.specs.Graph.{Graph, IsGraph, edge_at, graph_of}
+use Rattle.majority_graph.specs.Graph.{IsGraph, edge_at, graph_of}
 use Rattle.majority_graph.specs.Later.{or_edge, first_edge, HasFirstEdges}
+use Rattle.majority_graph.proofs.WantedFirst.{with_rows}
 use Rattle.fair_laws.proofs.Lateness.{first_edge_opposite}
 use Rattle.fair_update.specs.Updates.{updated_row, updated}
 use Rattle.fair_update.specs.Waiting.{is_missing, lacks, waits, is_complete}
+use Rattle.chain_state.specs.Lists.{BlockLists}
 use Rattle.chain_state.specs.Proposals.{graph_over}
 use Rattle.chain_state.proofs.FirstEdges.{or_missing, first_edge-more, first_edge-stays, first_edge-self}
 use Rattle.chain_state.proofs.ZippedLists.{map_zip, any_zip, map_agree, any_agree, map_on, none_at, eq_self}
 
-abbrev with_edges : List Tx → List (List Edge) → Graph
-with_edges vertices edges = record { vertices = vertices; edges = edges }
+abbrev pub late_of : BlockLists → List (List Tx)
+late_of b = b.late
 
 -- one block alone gives its own edges
 pub graph_over-one : (s : Parameters) (vertices : List Tx) (lists : List (List Tx)) → graph_over s vertices (lists ∷ []) ≡ graph_of s lists vertices
 graph_over-one s vertices lists =
-    ap (with_edges vertices) (map_agree (λ (u : Tx). map (first_edge s (lists ∷ []) u) vertices) (λ (u : Tx). map (edge_between s lists u) vertices)
+    ap (with_rows vertices) (map_agree (λ (u : Tx). map (first_edge s (lists ∷ []) u) vertices) (λ (u : Tx). map (edge_between s lists u) vertices)
     (λ u. map_agree (first_edge s (lists ∷ []) u) (edge_between s lists u) (λ v. or_missing (edge_between s lists u v)) vertices) vertices)
 
 -- one more block updates the graph
@@ -41,7 +43,7 @@ updated_is s vertices blocks late =
     λ u. map_zip (λ (entry : Tx × Edge). or_edge entry.1 (edge_between s late u entry.0)) (first_edge s blocks u) vertices
     ∙ map_agree (λ (v : Tx). or_edge (first_edge s blocks u v) (edge_between s late u v)) (first_edge s (blocks ++ late ∷ []) u)
     (λ v. sym (first_edge-more s blocks late u v)) vertices in
-    ap (with_edges vertices) (
+    ap (with_rows vertices) (
     map_zip (λ (entry : Tx × List Edge). updated_row s late vertices entry.0 entry.1) (λ (u : Tx). map (first_edge s blocks u) vertices) vertices
     ∙ map_agree (λ (u : Tx). updated_row s late vertices u (map (first_edge s blocks u) vertices)) (λ (u : Tx). map (first_edge s (blocks ++ late ∷ []) u) vertices) row vertices
     )
@@ -98,7 +100,7 @@ entry_stays s vertices blocks more u v complete from to =
 pub graph_over-stays : (s : Parameters) (vertices : List Tx) (blocks more : List (List (List Tx)))
     → is_complete (graph_over s vertices blocks) ≡ true → graph_over s vertices (blocks ++ more) ≡ graph_over s vertices blocks
 graph_over-stays s vertices blocks more complete =
-    ap (with_edges vertices) (map_on (λ (u : Tx). map (first_edge s (blocks ++ more) u) vertices) (λ (u : Tx). map (first_edge s blocks u) vertices) vertices
+    ap (with_rows vertices) (map_on (λ (u : Tx). map (first_edge s (blocks ++ more) u) vertices) (λ (u : Tx). map (first_edge s blocks u) vertices) vertices
     (λ u from. map_on (first_edge s (blocks ++ more) u) (first_edge s blocks u) vertices (λ v to. entry_stays s vertices blocks more u v complete from to)))
 
 -- the entries of the table

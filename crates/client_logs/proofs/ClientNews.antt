@@ -12,20 +12,11 @@ use Rattle.arrival_log.specs.Arrivals.{IsArrivals}
 use Rattle.client_logs.specs.Clients.{IsFullFor, OfClient, SeenMore, SomeFull, numbered, numbered_tx, tried}
 use Rattle.client_logs.specs.Submitted.{HoldsEach, Stands}
 use Rattle.client_logs.specs.declared.client.Client.{Client}
-use Rattle.client_logs.proofs.NextSubmission.{held_grow, stands_within}
+use Rattle.client_logs.proofs.NextSubmission.{Stand, Held, One, held_grow, stands_within}
 
 -- a pass learned more, or did nothing
 abbrev pub Hears : Known Tx → Known Tx → Type 0
 Hears p q = (q ≡ p) ⊎ (HasLooked p q × IsArrivals q.seen)
-
-abbrev Stand : List Tx → Known Tx → Type 0
-Stand txs p = Stands p.seen (record { own = p.own; list = txs })
-
-abbrev Held : List Tx → Known Tx → Type 0
-Held txs p = HoldsEach p.seen txs
-
-abbrev One : Known Tx → Type 0
-One p = p.parts ≡ 1
 
 -- what holds for each pass and is preserved when a pass learns more
 keeps : (P : Known Tx → Type 0) → ((p q : Known Tx) → Hears p q → P p → P q) → (ps qs : List (Known Tx)) → AllZip Hears ps qs → All P ps → All P qs

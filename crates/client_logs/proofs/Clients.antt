@@ -10,9 +10,8 @@ use Rattle.locked_log.specs.History.{IsPassOf, Known, Opened}
 use Rattle.arrival_log.specs.declared.log.SubmitFault.{SubmitFault}
 use Rattle.arrival_log.specs.declared.log.SubmitFault.TheVariants.{Full}
 use Rattle.client_logs.specs.Clients.{ByFirst, HasPlaced, IsFresh, MaySubmit, OfClient, SeenMore, SomeFull, numbered, numbered_tx, tried}
-use Rattle.client_logs.specs.Submitted.{HoldsEach, Stands}
 use Rattle.client_logs.specs.declared.client.Client.{Client}
-use Rattle.client_logs.proofs.NextSubmission.{held_after, stand_more, stands_after}
+use Rattle.client_logs.proofs.NextSubmission.{Stand, Held, One, held_after, stand_more, stands_after}
 use Rattle.client_logs.proofs.OneTransaction.{all_first}
 use Rattle.locked_log.proofs.Lists.{prefix_self, prefix_trans}
 use mathlib.Core.List.{IsPrefix}
@@ -32,15 +31,6 @@ pub numbered_more : (id n : ℕ) → numbered id (n + 1) ≡ numbered id n ++ nu
 numbered_more id n =
     ap (map (numbered_tx id)) (range_more 1 n) ∙ map-append (numbered_tx id) (range_with_len 1 n) ((1 + n) ∷ [])
     ∙ ap (λ (k : ℕ). numbered id n ++ numbered_tx id k ∷ []) (omega arith)
-
-abbrev Stand : List Tx → Known Tx → Type 0
-Stand txs p = Stands p.seen (record { own = p.own; list = txs })
-
-abbrev Held : List Tx → Known Tx → Type 0
-Held txs p = HoldsEach p.seen txs
-
-abbrev One : Known Tx → Type 0
-One p = p.parts ≡ 1
 
 module _ (tx : Tx) (txs : List Tx) where
   all_stand : (ps qs : List (Known Tx)) → AllZip (MaySubmit tx) ps qs → All (Stand txs) ps → All (Stand (txs ++ tx ∷ [])) qs

@@ -14,6 +14,18 @@ use Rattle.arrival_log.specs.declared.log.SubmitFault.{SubmitFault}
 use Rattle.client_logs.specs.Submitted.{HoldsEach, Rise, StandIn, Stands}
 use Rattle.client_logs.proofs.Merges.{holds_at, or_left}
 
+-- at a pass's own places are only these transactions
+abbrev pub Stand : List Tx → Known Tx → Type 0
+Stand txs p = Stands p.seen (record { own = p.own; list = txs })
+
+-- its log holds each of them
+abbrev pub Held : List Tx → Known Tx → Type 0
+Held txs p = HoldsEach p.seen txs
+
+-- it has one part
+abbrev pub One : Known Tx → Type 0
+One p = p.parts ≡ 1
+
 rise_within : (a : ℕ) (ks : List ℕ) (b c : ℕ) → b ≤ c → Rise a ks b → Rise a ks c
 rise_within a [] b c le r = omega (arith, le, r)
 rise_within a (k ∷ ks) b c le r = (r.0, rise_within (k + 1) ks b c le r.1)

@@ -10,11 +10,12 @@ use Rattle.seq_base.specs.Setting.{Parameters, threshold_of, solid_of}
 use Rattle.majority_graph.specs.declared.edge.Edge.{Edge}
 use Rattle.majority_graph.specs.declared.edge.Edge.TheVariants.{To, From, Missing}
 use Rattle.majority_graph.specs.Edges.{edge_between, opposite_of}
-use Rattle.majority_graph.specs.Graph.{Graph, IsGraph, HasEdge, graph_of, wanted_of, kept_of}
+use Rattle.majority_graph.specs.Graph.{IsGraph, HasEdge, graph_of, wanted_of, kept_of}
 use Rattle.majority_graph.specs.Walks.{Walks}
 use Rattle.majority_graph.proofs.EdgeLaws.{edge_of_places, edge_opposite, IsGraph-graph_of}
 use Rattle.majority_graph.proofs.Solid.{solid_edge}
 use Rattle.majority_graph.proofs.Wanted.{map-wanted_of, IsGraph-kept_of}
+use Rattle.majority_graph.proofs.WantedFirst.{with_rows}
 use Rattle.batch_laws.specs.Batches.{IsNumbering}
 use Rattle.seq_base.proofs.Members.{holds_place, place_holds, one_place}
 use Rattle.batch_laws.proofs.WantedItems.{wanted_shows, wanted_holds}
@@ -32,9 +33,6 @@ kept_rows s lists wanted [] tos = refl
 kept_rows s lists wanted (x ∷ froms) tos =
     ap (λ (row : List Edge). row ∷ map (wanted_of wanted) (rows_of s lists froms tos)) (sym (map-wanted_of (edge_between s lists x) wanted tos))
     ∙ ap (λ (rows : List (List Edge)). map (edge_between s lists x) (wanted_of wanted tos) ∷ rows) (kept_rows s lists wanted froms tos)
-
-abbrev with_rows : List Tx → List (List Edge) → Graph
-with_rows vertices edges = record { vertices = vertices; edges = edges }
 
 pub kept_graph : (s : Parameters) (lists : List (List Tx)) (wanted : List Bool) (txs : List Tx) → kept_of wanted (graph_of s lists txs) ≡ graph_of s lists (wanted_of wanted txs)
 kept_graph s lists wanted txs =

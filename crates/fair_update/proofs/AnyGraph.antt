@@ -14,6 +14,7 @@ use Rattle.majority_graph.specs.declared.edge.Edge.TheVariants.{To, From, Missin
 use Rattle.majority_graph.specs.Edges.{edge_between, opposite_of}
 use Rattle.majority_graph.specs.Graph.{Graph, IsGraph, IsComplete, edge_at}
 use Rattle.majority_graph.proofs.EdgeLaws.{edge_opposite}
+use Rattle.majority_graph.proofs.WantedFirst.{with_rows}
 use Rattle.fair_update.specs.Merging.{AreRanked, IsMerged, edge_by_rank}
 use Rattle.majority_graph.specs.Later.{or_edge}
 use Rattle.fair_update.specs.Updates.{updated_row, updated}
@@ -68,9 +69,6 @@ module _ (s : Parameters) (late : List (List Tx)) (g : Graph) (graph : IsGraph g
         ∙ ap opposite_of (sym (edge_at-updated v u any_tx to from));
   }
 
-abbrev with_edges : List Tx → List (List Edge) → Graph
-with_edges vertices edges = record { vertices = vertices; edges = edges }
-
 -- two graphs with the same vertices and edges are equal
 pub same_graph : (g h : Graph) → IsGraph g → IsGraph h → g.vertices ≡ h.vertices
     → ((u v : ℕ) → u < length g.vertices → v < length g.vertices → edge_at g u v ≡ edge_at h u v) → g ≡ h
@@ -82,7 +80,7 @@ same_graph g h one two vertices edges =
     let here : length (get_or g.edges u []) ≡ length g.vertices = row_length g one u [] from in
     let there : length (get_or h.edges u []) ≡ length h.vertices = row_length h two u [] (omega (arith, from, long)) in
     ext_get_or Missing (get_or g.edges u []) (get_or h.edges u []) (here ∙ long ∙ sym there) (λ v within. edges u v from (omega (arith, within, here)))) in
-    ap (λ (vs : List Tx). with_edges vs g.edges) vertices ∙ ap (with_edges h.vertices) rows
+    ap (λ (vs : List Tx). with_rows vs g.edges) vertices ∙ ap (with_rows h.vertices) rows
 
 -- no graph has an edge on the diagonal
 pub none_on_diagonal : (g : Graph) → IsGraph g → (u : ℕ) → u < length g.vertices → edge_at g u u ≡ Missing

@@ -21,9 +21,6 @@ use Rattle.majority_graph.specs.Graph.{Graph, IsGraph, IsComplete, edge_at}
 use Rattle.majority_graph.proofs.EdgeLaws.{one_rises}
 use Rattle.fair_update.specs.Waiting.{is_missing, lacks, waits, is_complete, Waits, IsMissingPair}
 
-eq_self : (t : Tx) → tx_eq t t ≡ true
-eq_self t = (tx_eq_decides t t).1 refl
-
 missing_from_test : (e : Edge) → is_missing e ≡ true → e ≡ Missing
 missing_from_test To is = absurd (cc)
 missing_from_test From is = absurd (cc)
@@ -114,7 +111,7 @@ module _ (g : Graph) (graph : IsGraph g) where
       list_any_at (of_row t) (zip g.vertices row) v (t, Missing) (omega (arith, is.to, long, length-zip g.vertices row))
       (subst (λ (e : Tx × Edge). of_row t e ≡ true) (sym (get_or-zip g.vertices row v (t, Missing) is.to long)) entry) in
       let at_u : of_table t (get_or g.vertices u t, row) ≡ true =
-      subst (λ (x : Tx). of_table t (x, row) ≡ true) (sym here) (and_from (tx_eq t t) (lacks g.vertices t row) (eq_self t) lacking) in
+      subst (λ (x : Tx). of_table t (x, row) ≡ true) (sym here) (and_from (tx_eq t t) (lacks g.vertices t row) ((tx_eq_decides t t).1 refl) lacking) in
       list_any_at (of_table t) (zip g.vertices g.edges) u (t, []) (omega (arith, within, inside, length-zip g.vertices g.edges))
       (subst (λ (e : Tx × List Edge). of_table t e ≡ true) (sym (get_or-zip g.vertices g.edges u (t, []) within inside)) at_u)
 

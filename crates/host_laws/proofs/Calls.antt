@@ -1,8 +1,6 @@
 -- What the calls of an open replica leave of a host.
 use Rattle.std.proofs.Common.{◌≡◌, ◌≤◌, ◌+◌, ℕ, List, [], ◌∷◌, ◌++◌, length, Bool, true, false, sym, ap, subst, ◌∙◌, arith, inl, inr}
 use Rattle.std.proofs.lemmas.List.{append-nil, length-append}
-use Rattle.hss_seal.specs.Any.{any_meaning}
-use Rattle.hss_seal.specs.declared.any.AnyChecker.{AnyChecker}
 use Rattle.node_core.specs.declared.event.Event.{Event}
 use Rattle.node_core.specs.declared.event.Reason.{Reason}
 use Rattle.node_core.specs.declared.entry.Entry.{Entry}
@@ -10,6 +8,7 @@ use Rattle.node_core.specs.Rows.{Check}
 use Rattle.node_core.specs.State.{State}
 use Rattle.node_core.specs.Reported.{Gives}
 use Rattle.durable_node.specs.Log.{CanBeKept, LogOf}
+use Rattle.replica_box.specs.CheckerKeys.{CheckerKeys, keys_fit}
 use Rattle.replica_box.specs.Hosting.{Continues, ContinuesLog, Prepared, digest_past, recorded}
 use Rattle.replica_box.specs.Seats.{HasTurned, Seat, fits_of, gives_of}
 use Rattle.host_laws.specs.Below.{LogLaws}
@@ -159,7 +158,7 @@ module _ (laws : LogLaws) (secret : Secret) (role : Role) (seat next : Seat) (fi
   runs : (j : List Entry) → ContinuesLog (header_for role) (events_in j) more seat.digest → FileIs secret role next j file → IsRunning secret role next file j
   runs j line is = record {
     header = header ∙ r.header;
-    fits = ap (λ (c : AnyChecker). any_meaning c) turned.checker ∙ r.fits;
+    fits = ap (λ (c : CheckerKeys). keys_fit c) turned.checker ∙ r.fits;
     gives = turned.gives ∙ r.gives;
     line = subst (λ (ps : List Prepared). ContinuesLog (header_for role) (events_in j) ps next.digest) (sym turned.rest)
         (subst (λ (d : List ℕ). ContinuesLog (header_for role) (events_in j) more d) (sym turned.digest) line);

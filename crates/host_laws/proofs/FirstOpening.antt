@@ -1,25 +1,24 @@
 -- The first opening of a lone replica, and its turns, as the layer below makes them.
-use Rattle.std.proofs.Common.{◌≡◌, ℕ, List, [], ◌∷◌, length, map, drop, true, false, refl, ap, arith, inr}
+use Rattle.std.proofs.Common.{◌≡◌, ℕ, List, [], ◌∷◌, length, true, false, refl, ap, arith, inr}
 use Rattle.std.specs.Prelude.{All}
 use Rattle.std.proofs.lemmas.List.Elements.{All-nil}
 use Rattle.sha2.specs.Sha256.{sha256, digest_bytes}
-use Rattle.hss_seal.specs.declared.any.AnyChecker.{AnyChecker}
-use Rattle.hss_seal.specs.declared.any.AnyChecker.TheVariants as check
 use Rattle.node_core.specs.declared.event.Event.{Event}
 use Rattle.seal_kit.specs.Seals.{capacity_of}
 use Rattle.seal_kit.specs.declared.height.Height.{Height}
 use Rattle.durable_node.specs.Check.{header_digest}
 use Rattle.durable_node.specs.Header.{IsTorn, height_number, records_in}
 use Rattle.durable_node.specs.Log.{CanBeKept, IsWholePrefix, log_digest, records_of}
+use Rattle.replica_box.specs.CheckerKeys.{CheckerKeys}
 use Rattle.replica_box.specs.Opening.{HasOpened, IsDigestOf, owner_keys}
 use Rattle.replica_box.proofs.LogContinues.{has_opened, has_turned}
 use Rattle.host_laws.specs.Examples.{lone_role}
 use Rattle.host_laws.specs.Roles.{Role, Secret, fits_for, gives_for, header_for, opening_for}
 use Rattle.host_laws.proofs.LoneHosts.{HaveTurned, outcome, seat, tick, turned_seat}
 
--- the checker by the only public key
-abbrev pub lone_checker : Secret → AnyChecker
-lone_checker secret = check.One (map (drop 4) (lone_role secret).publics)
+-- the only public key, and its height
+abbrev pub lone_checker : Secret → CheckerKeys
+lone_checker secret = record { height = (lone_role secret).height; publics = (lone_role secret).publics }
 
 pub turned : (secret : Secret) → HaveTurned secret (lone_checker secret) refl
 turned secret now floor before digest can =

@@ -7,8 +7,7 @@ use Rattle.seq_base.specs.declared.message.Outgoing.{Outgoing}
 use Rattle.seq_base.specs.Blocks.{first_cert}
 use Rattle.seq_base.specs.Spelling.{call_spelling}
 use Rattle.intake.specs.Desk as desks
-use Rattle.hss_seal.specs.Any.{any_meaning, any_sealer}
-use Rattle.hss_seal.specs.declared.any.AnyChecker.{AnyChecker}
+use Rattle.hss_seal.specs.Any.{any_sealer}
 use Rattle.seal_kit.specs.declared.height.Height.TheVariants.{H5}
 use Rattle.node_core.specs.declared.event.Event.TheVariants.{Tick}
 use Rattle.node_core.specs.Idle.{Changes}
@@ -18,6 +17,7 @@ use Rattle.node_core.specs.State.{State}
 use Rattle.node_core.specs.Turn.{on_tick, turn_of}
 use Rattle.journal_rules.specs.Sealed.{sealed_in}
 use Rattle.durable_node.specs.Log.{CanBeKept}
+use Rattle.replica_box.specs.CheckerKeys.{CheckerKeys, keys_fit}
 use Rattle.replica_box.specs.Hosting.{Prepared, digest_past}
 use Rattle.replica_box.specs.Opening.{HasOpened, IsDigestOf}
 use Rattle.replica_box.specs.Owners.{AreToldApart, IsOwner}
@@ -66,7 +66,7 @@ second_changes : (secret : Secret) (fits : Check)
 unfolding on_tick
 second_changes secret fits = record { taken = refl; other = λ none same. (let view : 2 ≡ 0 = ap (λ (s : State). s.known.view) same in omega (arith, view)) }
 
-module _ (secret : Secret) (checker : AnyChecker) (fits : any_meaning checker ≡ fits_for (lone_role secret)) where
+module _ (secret : Secret) (checker : CheckerKeys) (fits : keys_fit checker ≡ fits_for (lone_role secret)) where
   abbrev pub role : Role
   role = lone_role secret
 
@@ -84,7 +84,7 @@ module _ (secret : Secret) (checker : AnyChecker) (fits : any_meaning checker �
   }
 
   abbrev pub outcome : State → ℕ → Outcome
-  outcome now floor = turn_of (any_meaning checker) (gives_for secret role) now (Tick floor)
+  outcome now floor = turn_of (keys_fit checker) (gives_for secret role) now (Tick floor)
 
   -- the replica after the turn on a tick
   abbrev pub turned_seat : State → ℕ → List ℕ → Seat
@@ -233,7 +233,7 @@ module _ (secret : Secret) (checker : AnyChecker) (fits : any_meaning checker �
       lead = (
         opens new_host refl tt,
         (
-          prepares h1 file opening 0 digest [] [] refl (tick_kept 0 (omega arith)) (first_changes secret (any_meaning checker)),
+          prepares h1 file opening 0 digest [] [] refl (tick_kept 0 (omega arith)) (first_changes secret (keys_fit checker)),
           (
             turns have h2 file opening 0 digest refl (tick_kept 0 (omega arith)),
             (
@@ -241,7 +241,7 @@ module _ (secret : Secret) (checker : AnyChecker) (fits : any_meaning checker �
               (
                 opens h4 refl (λ same. refl),
                 (
-                  prepares h5 file opening 1 digest [] [] refl (tick_kept 1 (omega arith)) (second_changes secret (any_meaning checker)),
+                  prepares h5 file opening 1 digest [] [] refl (tick_kept 1 (omega arith)) (second_changes secret (keys_fit checker)),
                   (turns have h6 file opening 1 digest refl (tick_kept 1 (omega arith)), refl),
                 ),
               ),

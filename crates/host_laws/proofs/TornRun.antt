@@ -2,8 +2,6 @@
 use Rattle.std.proofs.Common.{◌≡◌, ◌≤◌, ◌+◌, ℕ, List, [], ◌∷◌, ◌++◌, length, take, drop, refl, sym, ap, ◌∙◌, append_assoc, arith, inl, inr, Some}
 use Rattle.std.specs.List.{flat_map}
 use Rattle.std.proofs.lemmas.List.{append-nil, length-append, take-append-drop, take_at}
-use Rattle.hss_seal.specs.Any.{any_meaning}
-use Rattle.hss_seal.specs.declared.any.AnyChecker.{AnyChecker}
 use Rattle.node_core.specs.declared.event.Event.{Event}
 use Rattle.node_core.specs.declared.event.Event.TheVariants.{Tick}
 use Rattle.node_core.specs.Idle.{Changes}
@@ -12,6 +10,7 @@ use Rattle.node_core.specs.State.{State}
 use Rattle.node_core.specs.Turn.{on_tick, turn_of}
 use Rattle.durable_node.specs.Check.{next_digest}
 use Rattle.durable_node.specs.Log.{LogOf, body_of, log_digest, record_of}
+use Rattle.replica_box.specs.CheckerKeys.{CheckerKeys, keys_fit}
 use Rattle.replica_box.specs.Hosting.{Prepared, record_for}
 use Rattle.replica_box.specs.Opening.{HasOpened, IsDigestOf}
 use Rattle.replica_box.specs.Seats.{Seat}
@@ -32,7 +31,7 @@ next_changes : (secret : Secret) (fits : Check) → Changes (turn_of fits (gives
 unfolding on_tick
 next_changes secret fits = record { taken = refl; other = λ none same. (let view : 2 ≡ 1 = ap (λ (s : State). s.known.view) same in omega (arith, view)) }
 
-module _ (records : RecordsFollow) (secret : Secret) (checker : AnyChecker) (fits : any_meaning checker ≡ fits_for (lone_role secret))
+module _ (records : RecordsFollow) (secret : Secret) (checker : CheckerKeys) (fits : keys_fit checker ≡ fits_for (lone_role secret))
     (have : HaveTurned secret checker fits) (digest : List ℕ)
     (found : HasOpened (fits_for (lone_role secret)) (gives_for secret (lone_role secret)) (opening_for (lone_role secret)) (header_for (lone_role secret)) [] 0
     (opening_for (lone_role secret)))
@@ -246,7 +245,7 @@ module _ (records : RecordsFollow) (secret : Secret) (checker : AnyChecker) (fit
           record { seat = quiet_seat; bytes = header; durable = 0; more = length header; was = refl; grown = omega arith; within = omega arith; is = refl },
           (
             lone.prepares secret checker fits g4 (Written header (length header)) opening 0 digest [] [] refl (tick_kept 0 (omega arith))
-                (first_changes secret (any_meaning checker)),
+                (first_changes secret (keys_fit checker)),
             (
               writes,
               (
@@ -255,7 +254,7 @@ module _ (records : RecordsFollow) (secret : Secret) (checker : AnyChecker) (fit
                   acts,
                   (
                     lone.prepares secret checker fits g8 (Written log1 (length log1)) now 1 after sealed sends refl (tick_kept 1 (omega arith))
-                        (next_changes secret (any_meaning checker)),
+                        (next_changes secret (keys_fit checker)),
                     (tears, (crashes, refl)),
                   ),
                 ),

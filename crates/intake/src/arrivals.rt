@@ -14,14 +14,23 @@ use seq_base::{NoMemory, Tx};
 /// Where so few wait or are not proposed yet, everything arrives, in the order of receipt.
 const FEW: usize = 64;
 
-/// How many that no block proposes or is expected to propose arrive in a burst.
+/// How many that no block proposes or is expected to propose arrive in a burst. A local order has room for 128: the rest of it
+/// is for what other replicas list.
 const WINDOW: usize = 96;
+
+/// The same after a block that proposes this many: replicas list the same then.
+const WIDE_WINDOW: usize = 128;
+
+const AGREED: usize = 90;
 
 /// How many that no block proposes may have arrived.
 const MAX_UNPROPOSED: usize = 480;
 
 /// Lists lend where a block proposes fewer than these.
 const FULL_BLOCK: usize = 48;
+
+/// How many the lists of all replicas may let in that no block proposes yet: half of what a local order has room for.
+const LENT: usize = 64;
 
 /// What arrives.
 #[derive(Drop)]
@@ -63,7 +72,8 @@ impl Intake {
                 given: Vec::new(self.alloc),
             });
         }
-        self.arrive_some(chain, room, WINDOW.saturating_sub(load.unexpected))
+        let first = self.window().saturating_sub(load.unexpected);
+        self.arrive_some(chain, room, first)
     }
 
     /// What arrives while a session is closing: what is named and a block of the certified chain proposes, with all that
@@ -79,7 +89,7 @@ impl Intake {
     {
         let load = self.load(chain)?;
         let room = MAX_UNPROPOSED.saturating_sub(load.unproposed);
-        let choice = self.choose_proposed(chain, room, 0)?;
+        let choice = self.choose_proposed(chain, room)?;
         let txs = self.admit(&choice, room)?;
         Ok(Arrivals {
             txs,
@@ -136,32 +146,48 @@ impl Intake {
         })
     }
 
-    // The first ones by key, what is named and proposed, and what is lent.
+    fn window(&self) -> usize {
+        if self.hints.last.solid.len() < AGREED {
+            WINDOW
+        } else {
+            WIDE_WINDOW
+        }
+    }
+
+    // The first ones by key, what is named, and what is lent. Nothing that is named or lent brings others with it: at
+    // another replica these may be few, and here so many that there is no room for what all have.
     fn choose<C: Chain>(&mut self, chain: &C, room: usize, first: usize) -> Result<Choice, NoMemory>
         ensures { self.new ≡ self.old }
     {
-        let mut choice = self.choose_proposed(chain, room, first)?;
+        let order = self.desk.ordered()?;
+        let mut choice = Choice::new(self.alloc, order, room, first);
+        self.let_named_in(&mut choice)?;
         if self.hints.last.solid.len() < FULL_BLOCK {
             self.lend_all(chain, &mut choice)?;
         }
         Ok(choice)
     }
 
-    // The first ones by key, and what is named and proposed.
-    fn choose_proposed<C: Chain>(
-        &self,
-        chain: &C,
-        room: usize,
-        first: usize,
-    ) -> Result<Choice, NoMemory> {
+    fn let_named_in(&self, choice: &mut Choice) -> Result<(), NoMemory> {
+        for at in 0..self.hints.named.len() {
+            let Some(tx) = self.hints.named.get(at) else {
+                return Ok(());
+            };
+            choice.let_in(&self.desk, &tx)?;
+        }
+        Ok(())
+    }
+
+    // What is named and proposed, with all that have a smaller key.
+    fn choose_proposed<C: Chain>(&self, chain: &C, room: usize) -> Result<Choice, NoMemory> {
         let order = self.desk.ordered()?;
-        let mut choice = Choice::new(self.alloc, order, room, first);
+        let mut choice = Choice::new(self.alloc, order, room, 0);
         for at in 0..self.hints.named.len() {
             let Some(tx) = self.hints.named.get(at) else {
                 return Ok(choice);
             };
             if chain.is_proposed(&tx)? {
-                choice.let_in(&self.desk, &tx)?;
+                choice.let_in_with_smaller(&self.desk, &tx)?;
             }
         }
         Ok(choice)
@@ -180,7 +206,7 @@ impl Intake {
     fn lend<C: Chain>(&mut self, chain: &C, choice: &mut Choice, at: usize) -> Result<(), NoMemory>
         ensures { self.new ≡ self.old }
     {
-        let share = self.share();
+        let share = self.share(LENT);
         let Some(list) = self.hints.lists.get(at) else {
             return Ok(());
         };
@@ -199,9 +225,9 @@ impl Intake {
         Ok(())
     }
 
-    // How many the lists of one replica may let in, or have given.
-    pub(crate) fn share(&self) -> usize {
-        (16 / self.desk.n() as usize).max(1)
+    // The part of one replica's lists.
+    pub(crate) fn share(&self, all: usize) -> usize {
+        (all / self.desk.n() as usize).max(1)
     }
 
     // What the choice lets arrive, where there is room.
@@ -213,11 +239,12 @@ impl Intake {
         let Some(bound) = choice.bound() else {
             return Ok(Vec::new(self.alloc));
         };
-        let txs = self.desk.arriving(bound, choice.extra.as_slice())?;
+        let extra = choice.extra(self.alloc)?;
+        let txs = self.desk.arriving(bound, extra.as_slice())?;
         if txs.len() > room {
             return Ok(Vec::new(self.alloc));
         }
-        self.desk.mark(bound, choice.extra.as_slice());
+        self.desk.mark(bound, extra.as_slice());
         self.hints.arrived(txs.as_slice());
         Ok(txs)
     }

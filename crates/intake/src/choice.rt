@@ -18,7 +18,8 @@ pub(crate) struct Choice {
     order: Vec<Keyed>,
     cap: usize,
     bound: Option<Keyed>,
-    pub(crate) extra: Vec<Tx>,
+    // What is let in beyond the bound.
+    extra: Vec<Keyed>,
 }
 
 impl Choice {
@@ -33,6 +34,15 @@ impl Choice {
         }
     }
 
+    /// What is let in beyond the bound.
+    pub(crate) fn extra(&self, alloc: Global) -> Result<Vec<Tx>, NoMemory> {
+        let mut txs = Vec::new(alloc);
+        for found in self.extra.as_slice() {
+            txs.push(found.tx)?;
+        }
+        Ok(txs)
+    }
+
     pub(crate) fn bound(&self) -> Option<Bound> {
         match self.bound {
             None => None,
@@ -43,42 +53,78 @@ impl Choice {
         }
     }
 
-    /// Lets a waiting transaction in, with all that wait and have a key below its low stamp, where there is room.
+    /// Lets a waiting transaction in, where there is room, and all that wait and have a key below its low stamp are chosen
+    /// already.
     pub(crate) fn let_in(&mut self, desk: &Desk, tx: &Tx) -> Result<bool, NoMemory> {
-        let Some((found, low)) = desk.ranks_of(tx) else {
-            return Ok(false);
-        };
+        match self.asks(desk, tx) {
+            Some((found, last)) if self.has_all_upto(last) => self.add(found, last),
+            _ => Ok(false),
+        }
+    }
+
+    /// Lets a waiting transaction in, with all that wait and have a key below its low stamp, where there is room for them.
+    pub(crate) fn let_in_with_smaller(&mut self, desk: &Desk, tx: &Tx) -> Result<bool, NoMemory> {
+        match self.asks(desk, tx) {
+            Some((found, last)) => self.add(found, last),
+            None => Ok(false),
+        }
+    }
+
+    /// A waiting transaction that is not chosen yet, and up to where all others have to be chosen with it: all below its low
+    /// stamp, which has to be known.
+    fn asks(&self, desk: &Desk, tx: &Tx) -> Option<(Keyed, Keyed)> {
+        let (found, low) = desk.ranks_of(tx)?;
         if low == UNKNOWN || self.holds(found) {
-            return Ok(false);
+            return None;
         }
-        let last = Keyed {
-            key: low,
-            tx: LEAST,
-        };
+        Some((
+            found,
+            Keyed {
+                key: low,
+                tx: LEAST,
+            },
+        ))
+    }
+
+    /// Adds a transaction with all up to this bound, where there is room.
+    fn add(&mut self, found: Keyed, last: Keyed) -> Result<bool, NoMemory> {
         let within = self.count_upto(last).max(self.within());
-        if self.cap <= within.saturating_add(self.extra.len()) {
+        if self.cap <= within.saturating_add(self.count_beyond(last)) {
             return Ok(false);
         }
-        self.extra.push(*tx)?;
+        self.extra.push(found)?;
         self.raise(last);
         Ok(true)
     }
 
     /// Whether a transaction is chosen already.
     pub(crate) fn holds(&self, found: Keyed) -> bool {
-        self.is_within(found) || self.extra.as_slice().contains(&found.tx)
+        self.is_within(found) || self.extra.as_slice().contains(&found)
+    }
+
+    /// Whether all up to a bound are chosen.
+    fn has_all_upto(&self, last: Keyed) -> bool {
+        for at in self.within()..self.count_upto(last) {
+            match self.order.get(at) {
+                Some(found) if self.holds(*found) => {}
+                _ => return false,
+            }
+        }
+        true
     }
 
     fn is_within(&self, found: Keyed) -> bool {
         match self.bound {
             None => false,
-            Some(last) => is_known(found) && found <= last,
+            Some(last) => is_upto(found, last),
         }
     }
 
+    /// What the bound reaches is no longer beyond it.
     fn raise(&mut self, last: Keyed) {
         if !self.reaches(last) {
             self.bound = Some(last);
+            self.extra.retain(|found| !is_upto(*found, last));
         }
     }
 
@@ -102,11 +148,21 @@ impl Choice {
         self.within().saturating_add(self.extra.len())
     }
 
+    /// How many of those that are let in are beyond a bound.
+    fn count_beyond(&self, last: Keyed) -> usize {
+        let beyond = self.extra.iter().filter(|found| !is_upto(**found, last));
+        beyond.count()
+    }
+
     fn count_upto(&self, last: Keyed) -> usize {
         self.order
             .as_slice()
             .partition_point(|found| *found <= last)
     }
+}
+
+fn is_upto(found: Keyed, last: Keyed) -> bool {
+    is_known(found) && found <= last
 }
 
 /// The last of the first ones.

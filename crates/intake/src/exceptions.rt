@@ -11,6 +11,9 @@ use seq_base::{NoMemory, Tx};
 /// After this number of blocks in a row that propose nothing, exceptions are given.
 const MAX_IDLE: u32 = 20;
 
+/// How many exceptions the lists of all replicas may have that no block proposes yet.
+const GIVEN: usize = 16;
+
 impl Intake {
     // Transactions of the last lists that wait and are not chosen. Those that are not held are received.
     pub(crate) fn exceptions<C: Chain>(
@@ -44,7 +47,7 @@ impl Intake {
         ensures desk { HasNamed self.old self.new }
         ensures room { length given.new.items ≤ room }
     {
-        let share = self.share();
+        let share = self.share(GIVEN);
         let Some(list) = self.hints.lists.get(at) else {
             return Ok(());
         };

@@ -18,9 +18,10 @@ use Rattle.intake.specs.declared.slot.Bound.TheVariants.{All, To}
 use Rattle.intake.specs.Keys.{limit, unknown, key_of, low_of, count_upto}
 use Rattle.intake.specs.Arriving.{keyed, keyed_cmp, is_known, is_within, is_low, comes}
 use Rattle.intake_laws.specs.Middle.{IsMiddle}
-use Rattle.intake_laws.proofs.Counting.{size_mono, size_longer, size_beyond, count_as_size}
+use Rattle.intake_laws.proofs.Counting.{size_longer, size_beyond, count_as_size}
 use Rattle.intake_laws.proofs.LeastStamps.{key_upto, upto_key, Contains-first, Contains-later}
 use Rattle.intake_laws.proofs.Slots.{receipt_at, IsNoted}
+use Rattle.chain_laws.proofs.Members.{size_within}
 
 -- ---- the order of keys
 
@@ -70,7 +71,7 @@ key_low n f k set stamp at stamps few middle many some enough same =
     ap (λ (m : ℕ). size_of m (λ i. leb (get_or stamps i unknown) at)) many in
     let longer = size_longer n 16 (λ i. leb (get_or stamps i unknown) at) few in
     let within : size_of n (λ i. set i && leb (stamp i) at) ≤ size_of n (λ i. leb (get_or stamps i unknown) at) =
-    size_mono n (λ i. set i && leb (stamp i) at) (λ i. leb (get_or stamps i unknown) at)
+    size_within n (λ i. set i && leb (stamp i) at) (λ i. leb (get_or stamps i unknown) at)
     (λ i below member.
     let parts = and_parts (set i) (leb (stamp i) at) member in
     le-leb (get_or stamps i unknown) at (omega (arith, same i below parts.0, leb-true (stamp i) at parts.1))) in
@@ -88,7 +89,7 @@ few_low n me K bad at e few small noted above =
     size_beyond n 16 (λ i. leb (get_or e.1.stamps i unknown) at) few
     (λ i from inside low. let there = reported i inside low in omega (arith, there.0, from)) in
     let within : size_of n (λ i. leb (get_or e.1.stamps i unknown) at) ≤ size_of n bad =
-    size_mono n (λ i. leb (get_or e.1.stamps i unknown) at) bad
+    size_within n (λ i. leb (get_or e.1.stamps i unknown) at) bad
     (λ i below low. elim (cases_Bool (bad i)) [
       | inl is ↦ is
       | inr good ↦

@@ -3,20 +3,10 @@ use Rattle.std.proofs.Common.{◌≡◌, ℕ, zero, suc, ◌+◌, ◌<◌, ◌�
 use Rattle.std.specs.Prelude.{count_by}
 use Rattle.std.proofs.lemmas.Bool.{cases_Bool, cases_lt, and_parts, and_from, not-true, leb-true, leb-false, le-leb, lt-leb, both_ways, false_from_ne_true}
 use Rattle.std.proofs.lemmas.List.Sums.{sum_by-cons}
-use Rattle.chain_laws.proofs.Members.{points_not}
+use Rattle.chain_laws.proofs.Members.{size_within}
 use Rattle.seq_base.proofs.Points.{point}
 use Rattle.count_set.specs.Sets.{size_of}
 use Rattle.intake_laws.specs.Middle.{IsMiddle}
-
-pub points_mono : (a b : Bool) → (a ≡ true → b ≡ true) → point a ≤ point b
-points_mono true b more = rw (more refl) (omega arith)
-points_mono false b more = omega arith
-
--- a set within another has at most as many members
-pub size_mono : (n : ℕ) (xs ys : ℕ → Bool) → ((r : ℕ) → r < n → xs r ≡ true → ys r ≡ true) → size_of n xs ≤ size_of n ys
-size_mono zero xs ys more = omega arith
-size_mono (suc n) xs ys more =
-    omega (arith, points_mono (xs n) (ys n) (more n (omega arith)), size_mono n xs ys (λ r below. more r (omega arith)))
 
 points_or : (a b : Bool) → point (a || b) ≤ point a + point b
 points_or true true = omega arith
@@ -38,10 +28,6 @@ points_parts false false = refl
 pub size_parts : (n : ℕ) (xs ys : ℕ → Bool) → size_of n (λ r. xs r && ys r) + size_of n (λ r. xs r && not (ys r)) ≡ size_of n xs
 size_parts zero xs ys = refl
 size_parts (suc n) xs ys = omega (arith, points_parts (xs n) (ys n), size_parts n xs ys)
-
-pub size_not : (n : ℕ) (xs : ℕ → Bool) → size_of n (λ r. not (xs r)) + size_of n xs ≡ n
-size_not zero xs = refl
-size_not (suc n) xs = omega (arith, points_not (xs n), size_not n xs)
 
 pub size_none : (n : ℕ) (xs : ℕ → Bool) → ((r : ℕ) → r < n → xs r ≡ true → ⊥) → size_of n xs ≡ 0
 size_none zero xs none = refl
@@ -111,7 +97,7 @@ middle n f set stamp enough =
     le-leb (f + 1) _ (omega (
       arith,
       enough,
-      size_mono n set (λ r. set r && leb 0 (stamp r))
+      size_within n set (λ r. set r && leb 0 (stamp r))
           (λ r below member. and_from (set r) (leb 0 (stamp r)) member (le-leb 0 (stamp r) (omega arith))),
     )) in
     let none : size_of n (λ r. set r && leb bound.0 (stamp r)) ≡ 0 =
@@ -123,7 +109,7 @@ middle n f set stamp enough =
     let few : size_of n (λ r. set r && leb (suc found.0) (stamp r)) < f + 1 = leb-false (f + 1) _ found.2 in
     let parts = size_parts n set (λ r. leb (suc found.0) (stamp r)) in
     let within : size_of n (λ r. set r && not (leb (suc found.0) (stamp r))) ≤ size_of n (λ r. set r && leb (stamp r) found.0) =
-    size_mono n (λ r. set r && not (leb (suc found.0) (stamp r))) (λ r. set r && leb (stamp r) found.0)
+    size_within n (λ r. set r && not (leb (suc found.0) (stamp r))) (λ r. set r && leb (stamp r) found.0)
     (λ r below member.
     let both = and_parts (set r) (not (leb (suc found.0) (stamp r))) member in
     let less : stamp r < suc found.0 = leb-false (suc found.0) (stamp r) (not-true (leb (suc found.0) (stamp r)) both.1) in

@@ -13,12 +13,13 @@ use Rattle.seq_base.proofs.Points.{point}
 use Rattle.count_set.specs.Sets.{size_of}
 use Rattle.count_set.proofs.Quorums.{four_faulty}
 use Rattle.chain_laws.specs.Received.{is_before, Received, honest_before}
+use Rattle.chain_laws.proofs.Members.{size_not, size_within}
 use Rattle.intake.specs.Keys.{limit}
 use Rattle.intake_laws.specs.Middle.{IsMiddle}
 use Rattle.intake_laws.specs.Past.{Call, Past, with_call, opened, AtEach, names_replica}
 use Rattle.intake_laws.specs.Premises.{History, lifetime_of, arrivals_of, ForHonest, UntilArrival, KnownOnArrival, Made, AreInOrder}
 use Rattle.intake_laws.proofs.Before.{before_more, before_skip}
-use Rattle.intake_laws.proofs.Counting.{size_mono, size_not, middle}
+use Rattle.intake_laws.proofs.Counting.{middle}
 use Rattle.intake_laws.proofs.LeastStamps.{Contains-first, Contains-later, Contains-none}
 use Rattle.intake_laws.proofs.Slots.{receipt_at}
 use Rattle.intake_laws.proofs.Sounds.{Sound, sound_calls, opened_sound}
@@ -64,7 +65,7 @@ middle_small s faulty stamp at mid stamped =
 module _ (s : Parameters) (faulty late : ℕ → Bool) (history : History) (stamp : ℕ → ℕ) (a b : Tx) (valid : IsValid s)
     (premises : AreInOrder s faulty late history stamp a b) where
   pub faulty_few : size_of s.n faulty ≤ s.f
-  faulty_few = omega (arith, premises.few, size_mono s.n faulty (λ r. faulty r || late r) (λ r below is. or_left (faulty r) (late r) is))
+  faulty_few = omega (arith, premises.few, size_within s.n faulty (λ r. faulty r || late r) (λ r below is. or_left (faulty r) (late r) is))
 
   counts : Counts s.n s.f (λ i. not (faulty i)) (λ r. faulty r || late r)
   counts = counts_of s faulty (λ r. faulty r || late r) valid faulty_few premises.few
@@ -125,7 +126,7 @@ pub all_received : (s : Parameters) (faulty : ℕ → Bool) (arrivals : ℕ → 
     (λ r. is_before (arrivals r) a b ≡ true) → Received s faulty arrivals a b
 all_received s faulty arrivals a b valid first =
     let honest : size_of s.n (λ r. not (faulty r)) ≤ size_of s.n (honest_before faulty arrivals a b) =
-    size_mono s.n (λ r. not (faulty r)) (honest_before faulty arrivals a b)
+    size_within s.n (λ r. not (faulty r)) (honest_before faulty arrivals a b)
     (λ r below is. and_from (not (faulty r)) (is_before (arrivals r) a b) is (first r below (not-true (faulty r) is))) in
     let all : s.n ≤ size_of s.n (honest_before faulty arrivals a b) + size_of s.n faulty = omega (arith, size_not s.n faulty, honest) in
     let gamma : s.p ≤ s.q = omega (arith, valid.gamma.at_most_one) in

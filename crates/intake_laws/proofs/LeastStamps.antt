@@ -5,7 +5,10 @@ use Rattle.std.proofs.lemmas.Bool.{cases_Bool, cases_lt, cases_eq, leb-true, le-
 use Rattle.std.proofs.lemmas.List.Sums.{sum_by-cons}
 use Rattle.seq_base.proofs.Points.{point}
 use Rattle.intake.specs.Keys.{unknown, count_upto, reaches, key_of, count_from, adopted_of}
-use Rattle.intake_laws.proofs.Counting.{points_mono}
+
+points_mono : (a b : Bool) → (a ≡ true → b ≡ true) → point a ≤ point b
+points_mono true b more = rw (more refl) (omega arith)
+points_mono false b more = omega arith
 
 module _ {X : Type 0} where
   pub Contains-first : (x : X) (xs : List X) → Contains (x ∷ xs) x

@@ -19,7 +19,6 @@ use Rattle.intake_laws.specs.Past.{Call, Past, desk_after, arriving_by, is_arriv
 use Rattle.intake_laws.specs.Premises.{KnowsAll, receives, WaitsAhead, AreInOrder, lifetime_of}
 use Rattle.intake_laws.specs.OneLifetime.{is_first_lifetime, lifetimes_of, AreHeardInOrder}
 use Rattle.intake_laws.proofs.Before.{before_filter}
-use Rattle.intake_laws.proofs.Counting.{size_mono}
 use Rattle.intake_laws.proofs.LeastStamps.{Contains-first, Contains-cases, Contains-none}
 use Rattle.intake_laws.proofs.Slots.{receipt_at}
 use Rattle.intake_laws.proofs.Closed.{lookup_entry}
@@ -28,6 +27,7 @@ use Rattle.intake_laws.proofs.Entries.{same_Some, at, found_or_not, holds_key, a
 use Rattle.intake_laws.proofs.Keeps.{some_or}
 use Rattle.intake_laws.proofs.FirstReceipts.{KeepsBoth}
 use Rattle.intake_laws.proofs.Waits.{keeps_after, names_too}
+use Rattle.chain_laws.proofs.Members.{size_within}
 
 some_from : {X : Type 0} (o : Option X) → (is_some o ≡ false → ⊥) → is_some o ≡ true
 some_from o never = elim (cases_Bool (is_some o)) [
@@ -197,7 +197,7 @@ module _ (s : Parameters) (faulty : ℕ → Bool) (log : ℕ → List Call) (sta
 
   pub in_order_without_restarts : AreInOrder s faulty (λ r. false) (lifetimes_of log) stamp a b
   in_order_without_restarts = record {
-    few = omega (arith, premises.few, size_mono s.n (λ r. faulty r || false) faulty (λ r below is. only_faulty (faulty r) is));
+    few = omega (arith, premises.few, size_within s.n (λ r. faulty r || false) faulty (λ r below is. only_faulty (faulty r) is));
     calls = λ r below honest lifetime recorded. subst (λ (l : List Call). All (λ call. names_replica s.n call ≡ true) l) (only_lifetime r lifetime recorded)
         (All-weaker (λ (c : Call). is_first_lifetime s.n c ≡ true) (λ c. names_replica s.n c ≡ true) (names_too s.n) (log r) (premises.calls r below honest));
     stamped = premises.stamped;

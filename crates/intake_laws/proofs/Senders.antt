@@ -13,10 +13,11 @@ use Rattle.intake.specs.Desk.{Desk, next_stamp}
 use Rattle.intake_laws.specs.Middle.{IsMiddle}
 use Rattle.intake_laws.specs.Past.{Call, Past, own_receipt, receipts_by, with_call, with_calls, names_replica, AtEach}
 use Rattle.intake_laws.specs.Premises.{receives}
-use Rattle.intake_laws.proofs.Counting.{size_mono, count_as_size}
+use Rattle.intake_laws.proofs.Counting.{count_as_size}
 use Rattle.intake_laws.proofs.LeastStamps.{Contains-cases, Contains-none, adopted_from}
 use Rattle.intake_laws.proofs.Slots.{receipt_at}
 use Rattle.intake_laws.proofs.Sounds.{Sound, Takes, takes_own, own_by, sound_after}
+use Rattle.chain_laws.proofs.Members.{size_within}
 
 pub next_above : (d : Desk) (f at : ℕ) → d.f ≡ f → at ≤ adopted_of f d.clocks → at < next_stamp d
 unfolding next_stamp
@@ -52,7 +53,7 @@ module _ (n f me : ℕ) (mine : me < n) (few : n ≤ 16) (set : ℕ → Bool) (s
       let below_n : size_of (length takes.base.clocks) (λ i. leb at (get_or takes.base.clocks i 0)) ≡ size_of n (λ i. leb at (get_or takes.base.clocks i 0)) =
       ap (λ (m : ℕ). size_of m (λ i. leb at (get_or takes.base.clocks i 0))) takes.fits.clocks in
       let many : size_of n (λ i. set i && leb at (stamp i)) ≤ size_of n (λ i. leb at (get_or takes.base.clocks i 0)) =
-      size_mono n (λ i. set i && leb at (stamp i)) (λ i. leb at (get_or takes.base.clocks i 0))
+      size_within n (λ i. set i && leb at (stamp i)) (λ i. leb at (get_or takes.base.clocks i 0))
       (λ i below member.
       let parts = and_parts (set i) (leb at (stamp i)) member in
       le-leb at (get_or takes.base.clocks i 0) (omega (arith, leb-true at (stamp i) parts.1, clock_reaches p i sound (heard i below parts.0), takes.more i))) in

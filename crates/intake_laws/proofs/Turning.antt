@@ -8,10 +8,11 @@ use Rattle.count_set.specs.Sets.{size_of}
 use Rattle.intake.specs.Keys.{unknown, k_of, key_of, low_of, reaches, count_upto, adopted_of, count_from}
 use Rattle.intake_laws.specs.Middle.{count_below, IsMiddle}
 use Rattle.intake_laws.specs.KeyClaims.{honest, AreStamps, AllKnown, AllTrue, AreStamped, IsPast}
-use Rattle.intake_laws.proofs.Counting.{size_mono, size_not, size_or, size_longer, size_beyond, count_as_size, middle}
+use Rattle.intake_laws.proofs.Counting.{size_or, size_longer, size_beyond, count_as_size, middle}
 use Rattle.intake_laws.proofs.LeastStamps.{key_upto, upto_key, adopted_from, from_adopted}
 use Rattle.intake_laws.proofs.Closed.{key_above}
 use Rattle.intake_laws.proofs.Decided.{few_faulty, member}
+use Rattle.chain_laws.proofs.Members.{size_not, size_within}
 
 pub key_is_reached : (k s : ℕ) (stamps : List ℕ) → 0 < k → s < unknown → (key_of k stamps ≤ s) ↔ (reaches k stamps s ≡ true)
 key_is_reached k s stamps some small = (
@@ -64,7 +65,7 @@ pub at_least : (n s : ℕ) (set : ℕ → Bool) (stamp : ℕ → ℕ) (stamps : 
 at_least n s set stamp stamps are known =
     let longer = size_longer n 16 (λ i. leb (get_or stamps i unknown) s) are.few in
     let within : size_of n (λ i. set i && leb (stamp i) s) ≤ size_of n (λ i. leb (get_or stamps i unknown) s) =
-    size_mono n (λ i. set i && leb (stamp i) s) (λ i. leb (get_or stamps i unknown) s)
+    size_within n (λ i. set i && leb (stamp i) s) (λ i. leb (get_or stamps i unknown) s)
     (λ i below is. let parts = and_parts (set i) (leb (stamp i) s) is in
     le-leb (get_or stamps i unknown) s (omega (arith, known i below parts.0, leb-true (stamp i) s parts.1))) in
     omega (arith, upto_places n s stamps are, longer, within)
@@ -77,7 +78,7 @@ at_most n s stamps set are small each =
     let shorter : size_of 16 (λ i. leb (get_or stamps i unknown) s) ≤ size_of n (λ i. leb (get_or stamps i unknown) s) =
     size_beyond n 16 (λ i. leb (get_or stamps i unknown) s) are.few
     (λ i from inside low. omega (arith, leb-true (get_or stamps i unknown) s low, are.others i from inside, small)) in
-    omega (arith, upto_places n s stamps are, shorter, size_mono n (λ i. leb (get_or stamps i unknown) s) set each)
+    omega (arith, upto_places n s stamps are, shorter, size_within n (λ i. leb (get_or stamps i unknown) s) set each)
 
 pub key_upper : (n k s : ℕ) (faulty : ℕ → Bool) (stamp : ℕ → ℕ) (stamps : List ℕ) → AreStamps n stamps → AllKnown n (honest faulty) stamp stamps
     → 0 < k → k ≤ count_below n (honest faulty) stamp s → key_of k stamps ≤ s
@@ -116,7 +117,7 @@ module _ (s : Parameters) (faulty late : ℕ → Bool) (first second : ℕ → �
           arith,
           past,
           mid.upper,
-          size_mono s.n (λ r. honest faulty r && leb at (first r)) (λ r. honest faulty r && leb x (first r))
+          size_within s.n (λ r. honest faulty r && leb at (first r)) (λ r. honest faulty r && leb x (first r))
               (λ r below is. let parts = and_parts (honest faulty r) (leb at (first r)) is in
               and_from (honest faulty r) (leb x (first r)) parts.0 (le-leb x (first r) (omega (arith, within, leb-true at (first r) parts.1)))),
         ))
@@ -164,4 +165,4 @@ module _ (s : Parameters) (faulty late : ℕ → Bool) (first second : ℕ → �
       omega (arith, above, key_one mid.0 mid.1)
 
 pub faulty_are_few : (s : Parameters) (faulty late : ℕ → Bool) → size_of s.n (λ i. faulty i || late i) ≤ s.f → size_of s.n faulty ≤ s.f
-faulty_are_few s faulty late few = omega (arith, few, size_mono s.n faulty (λ r. faulty r || late r) (λ r below is. or_left (faulty r) (late r) is))
+faulty_are_few s faulty late few = omega (arith, few, size_within s.n faulty (λ r. faulty r || late r) (λ r below is. or_left (faulty r) (late r) is))

@@ -17,13 +17,13 @@ use Rattle.hotstuff_core.specs.Rules.{seen_in, is_safe}
 use Rattle.agreement_laws.specs.Journals.{Named, Message, Ballot, ballot, Entry as Shown}
 use Rattle.agreement_laws.specs.JournalPrefixes.{stored_by, voter_by, taken_by}
 use Rattle.agreement_laws.specs.Lawful.{IsGood, IsStored, IsValidBlock, IsLawfulVote, MayBeDone as MayAgree}
+use Rattle.agreement_laws.proofs.Digests.{true_same}
 use Rattle.node_core.specs.State.{Known}
 use Rattle.node_core.specs.Rows.{Check, is_bad, is_stored_elsewhere, is_fit}
 use Rattle.journal_rules.specs.Shown.{named}
 use Rattle.journal_laws.proofs.StateInvariant.{TiedTo, found_with, shown_stored, rule_shown, next_block}
 use Rattle.journal_rules.proofs.Kept.{good_shown}
 use Rattle.journal_rules.specs.Stores.{at}
-use Rattle.journal_rules.proofs.Stores.{true_eq}
 use Rattle.journal_laws.proofs.TurnTies.{Laws}
 
 -- nothing arrived
@@ -71,7 +71,7 @@ module _ (laws : Laws) (fits : Check) (s : Parameters) (known : Known) (blocks :
       }
 
   not_first : (b : Block) → clashes known.store (block_digest b) b ≡ false → block_digest b ≡ first_digest → ⊥
-  not_first b alone is = (let never : true ≡ false = sym (rw (true_eq (block_digest b) first_digest is) refl) ∙ alone in absurd (cc))
+  not_first b alone is = (let never : true ≡ false = sym (rw (true_same (block_digest b) first_digest is) refl) ∙ alone in absurd (cc))
 
   pub valid_block : (b : Block) → IsTaking fits s known prior b → IsValidBlock s prior (named b)
   valid_block b t = record { good = t.cert.agrees; parent = t.cert.shown; below = t.cert.below }

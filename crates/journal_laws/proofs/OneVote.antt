@@ -16,11 +16,11 @@ use Rattle.quorum_cert.specs.declared.vote_box.Took.TheVariants as Took
 use Rattle.quorum_cert.specs.Boxes.{cert_with, has_vote, place_in, with_vote as with_cert_vote}
 use Rattle.agreement_laws.specs.Journals.{Entry as Shown}
 use Rattle.agreement_laws.specs.JournalPrefixes.{voter_by, voters, completed}
+use Rattle.agreement_laws.proofs.Digests.{same_true, true_same}
 use Rattle.node_core.specs.State.{Known, Ballot}
 use Rattle.node_core.specs.declared.state.votes.Formed.{Formed}
 use Rattle.node_core.specs.Vote.{is_for, has_voted, empty_ballot, ballot_of, others, with_carried, with_vote, formed_votes, formed, boxes_with}
 use Rattle.journal_laws.proofs.Firsts.{without_first, first_at, others_at, find_others, any_inserted}
-use Rattle.journal_rules.proofs.Stores.{true_eq, eq_true}
 use Rattle.journal_rules.proofs.Voters.{IsOneMore, voters_more, voters_same}
 use Rattle.journal_laws.proofs.Votes.{AreVotes, IsOpen, VotesTied, apart_others, box_for, box_key, box_open, box_unvoted, find_last, find_own, last_other, last_own, open_others, other_key}
 
@@ -86,7 +86,7 @@ module _ (known : Known) (v : ℕ) (d : Digest) (w : CertVote) (order : Option S
   is_open = box_open known.setting v d known.boxes tied.open_boxes
 
   own_vote : voter_by v d e ≡ Some w.replica
-  own_vote = is_vote v d ∙ (let one : (v == v) ≡ true = grind (arith, nat_tests) in rw (one, true_eq d d refl) refl)
+  own_vote = is_vote v d ∙ (let one : (v == v) ≡ true = grind (arith, nat_tests) in rw (one, true_same d d refl) refl)
 
   more : IsOneMore w.replica (voters v d prior) (voters v d (prior ++ e ∷ []))
   more = voters_more v d prior e w.replica own_vote (votes.among w.replica ∙ unvoted)
@@ -100,7 +100,7 @@ module _ (known : Known) (v : ℕ) (d : Digest) (w : CertVote) (order : Option S
   differ : (x : ℕ) (c : Digest) → ((v == x) && digest_eq d c) ≡ false → v ≡ x → d ≡ c → ⊥
   differ x c not one two =
       let views : (v == x) ≡ true = grind (arith, nat_tests) in
-      let never : true ≡ false = sym (rw (views, true_eq d c two) refl) ∙ not in
+      let never : true ≡ false = sym (rw (views, true_same d c two) refl) ∙ not in
       absurd (cc)
 
   abbrev put : Ballot
@@ -124,7 +124,7 @@ module _ (known : Known) (v : ℕ) (d : Digest) (w : CertVote) (order : Option S
       | inl is ↦
           let parts = and_parts (v == x) (digest_eq d c) is in
           let same_view : v ≡ x = eqb-true v x parts.0 in
-          rw (← same_view, ← eq_true d c parts.1, last_own v d rest put (tied.apart v d) own_key) (tied.apart v d)
+          rw (← same_view, ← same_true d c parts.1, last_own v d rest put (tied.apart v d) own_key) (tied.apart v d)
       | inr not ↦
           rw (last_other v d (is_for x c) rest put (put_other x c not), find_last v d (is_for x c) (without_first (is_for x c) rest) put (put_other x c not))
           (apart_others v d known.boxes tied.apart x c)
@@ -133,7 +133,7 @@ module _ (known : Known) (v : ℕ) (d : Digest) (w : CertVote) (order : Option S
       | inl is ↦
           let parts = and_parts (v == x) (digest_eq d c) is in
           let same_view : v ≡ x = eqb-true v x parts.0 in
-          rw (← same_view, ← eq_true d c parts.1, find_own v d rest put (tied.apart v d) own_key) now
+          rw (← same_view, ← same_true d c parts.1, find_own v d rest put (tied.apart v d) own_key) now
       | inr not ↦ rw (another x c not, find_last v d (is_for x c) rest put (put_other x c not), rest_other x c not) (tied.same x c above)
     ];
   }

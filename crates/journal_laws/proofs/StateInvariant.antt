@@ -29,9 +29,10 @@ use Rattle.node_core.specs.declared.state.votes.Formed.{Formed}
 use Rattle.journal_rules.specs.Shown.{named}
 use Rattle.journal_rules.proofs.Ends.{pairs_more}
 use Rattle.agreement_laws.proofs.Lists.{here, there}
+use Rattle.agreement_laws.proofs.Digests.{false_other, same_true}
 use Rattle.journal_rules.specs.Held.{SafeTied}
 use Rattle.journal_rules.specs.Stores.{at, IsTied}
-use Rattle.journal_rules.proofs.Stores.{at_cases, eq_true, false_eq, at_view, view_found, stored_found, none_at_first, leads}
+use Rattle.journal_rules.proofs.Stores.{at_cases, at_view, view_found, stored_found, none_at_first, leads}
 use Rattle.journal_rules.proofs.GrownStores.{at_stays, grows}
 use Rattle.journal_rules.proofs.NextPrefix.{AllMove, lawful_more, still, sees}
 use Rattle.journal_rules.proofs.Kept.{stored_more, stored_same}
@@ -81,7 +82,7 @@ module _ (s : Parameters) (known : Known) (blocks : List Block) (arrived : List 
       shown_inside (x ∷ bs) d b found = by (digest_eq x.digest d) refl found (shown_inside bs d b)
         where
           by : (t : Bool) → digest_eq x.digest d ≡ t → cond t (Some x) (shown_at bs d) ≡ Some b → (shown_at bs d ≡ Some b → Contains bs b × (b.digest ≡ d)) → Contains (x ∷ bs) b × (b.digest ≡ d)
-          by true is one later = let same : x ≡ b = cc in subst (λ (y : Named). Contains (x ∷ bs) y × (y.digest ≡ d)) same (here x bs, eq_true x.digest d is)
+          by true is one later = let same : x ≡ b = cc in subst (λ (y : Named). Contains (x ∷ bs) y × (y.digest ≡ d)) same (here x bs, same_true x.digest d is)
           by false is one later = let q = later one in (there x bs b q.0, q.1)
 
       any_from : (bs : List Named) (b : Named) → Contains bs b → (b.digest ≡ d) × (b.view ≡ v) → Any (λ x. (x.digest ≡ d) × (x.view ≡ v)) bs
@@ -196,7 +197,7 @@ module _ (s : Parameters) (known : Known) (blocks : List Block) (arrived : List 
     ]
       where
         parent_is : parent_in (stored prior) (named b) ≡ Some n
-        parent_is = rw (false_eq (block_digest b) first_digest other) (tied.safe.stores.same b.cert.block ∙ found)
+        parent_is = rw (false_other (block_digest b) first_digest other) (tied.safe.stores.same b.cert.block ∙ found)
 
         is_lock : (o : Option Block) → block_at known.store known.safety.lock ≡ o → option_map_or (λ y. block_eq y b) o false ≡ true → named b ≡ lock s prior
         is_lock None is same = absurd (cc)

@@ -12,11 +12,11 @@ use Rattle.count_set.specs.Sets.{is_among}
 use Rattle.quorum_cert.specs.Boxes.{has_vote}
 use Rattle.agreement_laws.specs.Journals.{Entry as Shown}
 use Rattle.agreement_laws.specs.JournalPrefixes.{voter_by, voters}
+use Rattle.agreement_laws.proofs.Digests.{same_true, true_same}
 use Rattle.node_core.specs.State.{Ballot}
 use Rattle.node_core.specs.Vote.{is_for, has_voted, empty_ballot}
 use Rattle.journal_rules.proofs.Voters.{voters_same}
 use Rattle.journal_laws.proofs.Firsts.{without_first, find_others}
-use Rattle.journal_rules.proofs.Stores.{true_eq, eq_true}
 
 -- ---- the ballots that are stored
 
@@ -62,12 +62,12 @@ no_vote_ties s high higher boxes prior e above none tied = record {
 -- ---- keys
 
 is_for_own : (v : ℕ) (d : Digest) (b : Ballot) → is_for v d b ≡ true → (b.view ≡ v) × (b.block ≡ d)
-is_for_own v d b is = let parts = and_parts (nat_eq b.view v) (digest_eq b.block d) is in ((let same : nat_eq b.view v ≡ true = parts.0 in grind (arith, nat_tests)), eq_true b.block d parts.1)
+is_for_own v d b is = let parts = and_parts (nat_eq b.view v) (digest_eq b.block d) is in ((let same : nat_eq b.view v ≡ true = parts.0 in grind (arith, nat_tests)), same_true b.block d parts.1)
 
 for_key : (v : ℕ) (d : Digest) (b : Ballot) → b.view ≡ v → b.block ≡ d → is_for v d b ≡ true
 for_key v d b view block =
     let one : nat_eq b.view v ≡ true = grind (arith, nat_tests) in
-    rw (one, true_eq b.block d block) refl
+    rw (one, true_same b.block d block) refl
 
 -- ballots for one key are not for another
 pub other_key : (v w : ℕ) (d e : Digest) → ((v ≡ w) → (d ≡ e) → ⊥) → (b : Ballot) → is_for v d b ≡ true → is_for w e b ≡ false
@@ -174,7 +174,7 @@ module _ (v : ℕ) (d : Digest) where
     | inl is ↦
         let parts = and_parts (v == w) (digest_eq d e) is in
         let same_view : v ≡ w = eqb-true v w parts.0 in
-        rw (← same_view, ← eq_true d e parts.1, none_without (without_first p boxes) (apart v d)) (apart v d)
+        rw (← same_view, ← same_true d e parts.1, none_without (without_first p boxes) (apart v d)) (apart v d)
     | inr not ↦
         let other : (b : Ballot) → p b ≡ true → is_for w e b ≡ false = λ b. other_key v w d e (differ w e not) b in
         ap (find (is_for w e)) (swapped (is_for w e) other boxes) ∙ find_others p (is_for w e) (without_first (is_for w e) boxes) other ∙ apart w e
@@ -183,5 +183,5 @@ module _ (v : ℕ) (d : Digest) where
       differ : (w : ℕ) (e : Digest) → ((v == w) && digest_eq d e) ≡ false → v ≡ w → d ≡ e → ⊥
       differ w e not one two =
           let views : (v == w) ≡ true = grind (arith, nat_tests) in
-          let never : true ≡ false = sym (rw (views, true_eq d e two) refl) ∙ not in
+          let never : true ≡ false = sym (rw (views, true_same d e two) refl) ∙ not in
           absurd (cc)

@@ -12,13 +12,14 @@ use Rattle.chain_store.proofs.ChainStates.{clashes_parts}
 use Rattle.agreement_laws.specs.Journals.{Named}
 use Rattle.agreement_laws.proofs.Blocks.{found_at}
 use Rattle.agreement_laws.proofs.Lists.{all_from}
+use Rattle.agreement_laws.proofs.Digests.{false_other}
 use Rattle.node_core.specs.declared.entry.Entry.{Entry}
 use Rattle.journal_rules.specs.Rules.{StandsAlone, stored_in}
 use Rattle.journal_rules.specs.Shown.{named}
 use Rattle.journal_rules.specs.Tests.{block_named}
 use Rattle.journal_rules.proofs.GrownStores.{not_clashing}
 use Rattle.journal_rules.specs.Stores.{IsTied}
-use Rattle.journal_rules.proofs.Stores.{at_cases, at_other, false_eq}
+use Rattle.journal_rules.proofs.Stores.{at_cases, at_other}
 
 module _ (store : List Block) (before : List Entry) (tied : IsTied store (stored_in before)) where
   found_one : (b : Block) → StandsAlone before (named b) → (x : Block) → block_at store (block_digest b) ≡ Some x → x ≡ b
@@ -28,7 +29,7 @@ module _ (store : List Block) (before : List Entry) (tied : IsTied store (stored
       ap block_named same
 
   pub not_clashing_when : (b : Block) → StandsAlone before (named b) → clashes store (block_digest b) b ≡ false
-  not_clashing_when b alone = rw (false_eq (block_digest b) first_digest alone.other) (by (block_at store (block_digest b)) refl)
+  not_clashing_when b alone = rw (false_other (block_digest b) first_digest alone.other) (by (block_at store (block_digest b)) refl)
     where
       by : (o : Option Block) → block_at store (block_digest b) ≡ o → is_other o b ≡ false
       by None is = refl

@@ -16,7 +16,8 @@ use Rattle.chain_state.specs.Lists.{fresh_of}
 use Rattle.chain_store.proofs.ChainStates.{led_with}
 use Rattle.journal_rules.specs.Stores.{StoreKept}
 use Rattle.journal_rules.proofs.GrownStores.{elsewhere}
-use Rattle.journal_rules.proofs.Stores.{eq_true, eq_false}
+use Rattle.journal_rules.proofs.Stores.{eq_false}
+use Rattle.agreement_laws.proofs.Digests.{same_true}
 
 -- what can be written is within its limits
 each_short : (orders : List SealedOrder) → AllByRecursion IsWritableOrder orders → All (λ sealed. IsShort sealed.order) orders
@@ -32,7 +33,7 @@ store_more short store b stays found shape parent alone kept = record {
   led = led_with store b kept.led alone parent;
   fresh = λ d x at_x. elim (cases_Bool (digest_eq d (block_digest b))) [
     | inl is ↦
-        let one : Some b ≡ Some x = sym found ∙ ap (block_at (with_block b store)) (sym (eq_true d (block_digest b) is)) ∙ at_x in
+        let one : Some b ≡ Some x = sym found ∙ ap (block_at (with_block b store)) (sym (same_true d (block_digest b) is)) ∙ at_x in
         let same : b ≡ x = cc in
         subst (λ (y : Block). AreFresh (fresh_of y)) same (short b (record { few = shape.few; short = each_short b.orders shape.each }))
     | inr not ↦ kept.fresh d x (sym (elsewhere store b d (eq_false d (block_digest b) not)) ∙ at_x)

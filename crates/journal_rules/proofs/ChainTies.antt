@@ -14,12 +14,13 @@ use Rattle.chain_state.specs.Lists.{BlockLists, lists_of}
 use Rattle.chain_state.specs.Standings.{Standings, standing_for, applied}
 use Rattle.agreement_laws.specs.Journals.{Named, first_block}
 use Rattle.agreement_laws.specs.JournalPrefixes.{parent_in, following, chain}
+use Rattle.agreement_laws.proofs.Digests.{false_other}
 use Rattle.chain_store.specs.Chains.{chain_state_of}
 use Rattle.chain_store.proofs.ChainStates.{one_on}
 use Rattle.journal_rules.specs.Shown.{named}
 use Rattle.journal_rules.specs.Chained.{lists_in}
 use Rattle.journal_rules.specs.Stores.{at, HasParent, IsTied, StoreKept}
-use Rattle.journal_rules.proofs.Stores.{at_cases, false_eq, none_at_first}
+use Rattle.journal_rules.proofs.Stores.{at_cases, none_at_first}
 
 -- one block more on a chain, as the lower crate states it
 abbrev pub StandsForOneMore : Type 0
@@ -32,7 +33,7 @@ module _ (one_more : StandsForOneMore) (s : Parameters) (store : List Block) (bl
   after_first (suc k) = refl
 
   parent_is : (b : Block) (p : HasParent store b) → parent_in blocks (named b) ≡ Some p.parent
-  parent_is b p = rw (false_eq (block_digest b) first_digest p.other) (tied.same b.cert.block ∙ p.found)
+  parent_is b p = rw (false_other (block_digest b) first_digest p.other) (tied.same b.cert.block ∙ p.found)
 
   after_more : (k : ℕ) (b : Block) (p : HasParent store b) → following (suc k) blocks (named b) ≡ following k blocks p.parent ++ named b ∷ []
   after_more k b p = rw (parent_is b p) refl

@@ -18,19 +18,19 @@ use Rattle.agreement_laws.specs.Journals.{Named, first_block, Ballot, ballot, Me
 use Rattle.agreement_laws.specs.JournalPrefixes.{Leads, LeadsTo, lock, parent_in, parent_of, stored, stored_by}
 use Rattle.agreement_laws.specs.JournalPrefixes.{sealed_in as ballots_in}
 use Rattle.agreement_laws.specs.Lawful.{IsStored}
+use Rattle.agreement_laws.proofs.Digests.{false_other, true_same}
 use Rattle.node_core.specs.declared.event.Event.TheVariants.{Deliver}
 use Rattle.node_core.specs.declared.entry.Entry.{Entry}
 use Rattle.node_core.specs.Delivered.{message_in}
 use Rattle.journal_rules.specs.Examples.{BreaksAloneAfter}
 use Rattle.journal_rules.specs.Proposals.{of_one, child, cert_of, grandchild, done, proposed, voted_for, called_with, locked_on_child, Collide, HaveOwnDigests}
-use Rattle.journal_rules.specs.Rules.{KeepsAll, Takes, Rises, Votes, IsVoteFor, IsDrawn, IsLawful, IsValidIn, MayBeDone, StandsAlone, replica_named, ballots_by, lock_in, stored_in, up_to}
+use Rattle.journal_rules.specs.Rules.{KeepsAll, Takes, Rises, Votes, IsVoteFor, IsDrawn, IsLawful, IsValidIn, MayBeDone, StandsAlone, ballots_by, lock_in, stored_in, up_to}
 use Rattle.journal_rules.specs.Sealed.{Mark, marks_in, sealed_in}
 use Rattle.journal_rules.specs.Shown.{ballot_in, named, shown, shown_message}
 use Rattle.journal_rules.proofs.Empty.{valid_over, valid_child, writable_over, writable_child, cert_writable, cert_good}
 use Rattle.journal_rules.proofs.Ends.{each_none, each_more}
 use Rattle.journal_rules.proofs.FirstBroken.{keep_all}
-use Rattle.journal_rules.proofs.OneEntry.{ReadsSpellings, itself, others, few_marks}
-use Rattle.journal_rules.proofs.Stores.{false_eq, true_eq}
+use Rattle.journal_rules.proofs.OneEntry.{NamesReplica0, ReadsSpellings, few_marks, itself, others}
 
 -- ---- what is known of stored blocks
 
@@ -50,7 +50,7 @@ first_alone b other = record {
 
 -- a child of the first block leads to it
 leads_to_first : (blocks : List Named) (v : ℕ) → block_digest (child v) ≢ first_digest → LeadsTo (first_block ∷ blocks) (named (child v)) first_block
-leads_to_first blocks v other = (1, (first_block, rw (false_eq (block_digest (child v)) first_digest other) refl, refl))
+leads_to_first blocks v other = (1, (first_block, rw (false_other (block_digest (child v)) first_digest other) refl, refl))
 
 -- ---- entries
 
@@ -63,17 +63,14 @@ few_votes votes few i j d less inside = absurd (omega (arith, few, less, inside)
 abbrev drawn_if : List Entry → Entry → List ℕ → Type 0
 drawn_if before e statement = get_or statement 0 0 ≡ ORDER → IsDrawn of_one before e statement
 
-abbrev Own : List ℕ → Type 0
-Own statement = replica_named statement ≡ 0
-
 abbrev vote_of : Block → List ℕ
 vote_of b = vote_spelling 0 b.view (block_digest b)
 
 no_orders : (before : List Entry) (e : Entry) (b : Block) → All (drawn_if before e) (vote_of b ∷ [])
 no_orders before e b = All-cons (drawn_if before e) (vote_of b) [] (λ is. absurd (omega (arith, is))) (All-nil (drawn_if before e))
 
-own_vote : (b : Block) → All Own (vote_of b ∷ [])
-own_vote b = All-cons Own (vote_of b) [] refl (All-nil Own)
+own_vote : (b : Block) → All NamesReplica0 (vote_of b ∷ [])
+own_vote b = All-cons NamesReplica0 (vote_of b) [] refl (All-nil NamesReplica0)
 
 -- an entry without votes, after others without votes
 no_votes : (before : List Entry) (e : Entry) → ballots_in (map shown (up_to before e)) ≡ [] → ballots_by e ≡ [] → Rises of_one before e × Votes of_one before e
@@ -94,7 +91,7 @@ module _ (reads : ReadsSpellings) where
 
   -- a valid block is accepted
   takes_block : (before : List Entry) (b : Block) (sealed : List (List ℕ)) → IsWritableBlock b → IsValidIn of_one before b → StandsAlone before (named b)
-      → All Own sealed → once_in (sealed_in (up_to before (done (messages.Propose 0 b []) sealed))) → Takes of_one before (done (messages.Propose 0 b []) sealed)
+      → All NamesReplica0 sealed → once_in (sealed_in (up_to before (done (messages.Propose 0 b []) sealed))) → Takes of_one before (done (messages.Propose 0 b []) sealed)
   takes_block before b sealed writable valid alone own once = record {
     idle = λ not. absurd (cc);
     own = own;
@@ -119,7 +116,7 @@ module _ (reads : ReadsSpellings) where
   proposed_lawful : (a : Block) → IsWritableBlock a → IsValidIn of_one [] a → block_digest a ≢ first_digest → IsLawful of_one (proposed a ∷ [])
   proposed_lawful a writable valid other = each_more (KeepsAll of_one) [] (proposed a) (each_none (KeepsAll of_one))
       (keep_all of_one [] (proposed a) (record { first = refl; all = refl })
-      (takes_block [] a [] writable valid (first_alone a other) (All-nil Own) (few_marks [] (omega arith)))
+      (takes_block [] a [] writable valid (first_alone a other) (All-nil NamesReplica0) (few_marks [] (omega arith)))
       (All-nil (drawn_if [] (proposed a))) (no_votes [] (proposed a) refl refl).0 (no_votes [] (proposed a) refl refl).1)
 
   -- ---- the fourth rule
@@ -252,16 +249,16 @@ module _ (reads : ReadsSpellings) where
     blocks = first_block ∷ named a ∷ named b ∷ []
 
     a_parent : parent_of blocks (block_digest a) ≡ Some first_block
-    a_parent = rw (false_eq first_digest (block_digest a) (λ is. a_other (sym is)), true_eq (block_digest a) (block_digest a) refl, false_eq (block_digest a) first_digest a_other) refl
+    a_parent = rw (false_other first_digest (block_digest a) (λ is. a_other (sym is)), true_same (block_digest a) (block_digest a) refl, false_other (block_digest a) first_digest a_other) refl
 
     b_parent : parent_of blocks (block_digest b) ≡ Some (named a)
     b_parent = rw (
-      false_eq first_digest (block_digest b) (λ is. b_other (sym is)),
-      false_eq (block_digest a) (block_digest b) a_is_not_b,
-      true_eq (block_digest b) (block_digest b) refl,
-      false_eq (block_digest b) first_digest b_other,
-      false_eq first_digest (block_digest a) (λ is. a_other (sym is)),
-      true_eq (block_digest a) (block_digest a) refl,
+      false_other first_digest (block_digest b) (λ is. b_other (sym is)),
+      false_other (block_digest a) (block_digest b) a_is_not_b,
+      true_same (block_digest b) (block_digest b) refl,
+      false_other (block_digest b) first_digest b_other,
+      false_other first_digest (block_digest a) (λ is. a_other (sym is)),
+      true_same (block_digest a) (block_digest a) refl,
     ) refl
 
     locked_is : lock_in of_one.setting locked_on_child ≡ named a
@@ -274,7 +271,7 @@ module _ (reads : ReadsSpellings) where
 
     b_keeps : KeepsAll of_one (proposed a ∷ []) (proposed b)
     b_keeps = keep_all of_one (proposed a ∷ []) (proposed b) (record { first = refl; all = refl })
-        (takes_block (proposed a ∷ []) b [] b_writable b_valid (two_stored a b (proposed a ∷ []) (ap stored one) b_other (λ same. absurd (a_is_not_b same))) (All-nil Own) (few_marks [] (omega arith)))
+        (takes_block (proposed a ∷ []) b [] b_writable b_valid (two_stored a b (proposed a ∷ []) (ap stored one) b_other (λ same. absurd (a_is_not_b same))) (All-nil NamesReplica0) (few_marks [] (omega arith)))
         (All-nil (drawn_if (proposed a ∷ []) (proposed b))) (no_votes (proposed a ∷ []) (proposed b) refl refl).0 (no_votes (proposed a ∷ []) (proposed b) refl refl).1
 
     abbrev before_call : List Entry
@@ -283,7 +280,7 @@ module _ (reads : ReadsSpellings) where
     called_taken : Takes of_one before_call (called_with b)
     called_taken = record {
       idle = λ not. absurd (cc);
-      own = All-nil Own;
+      own = All-nil NamesReplica0;
       once = few_marks [] (omega arith);
       done = λ is. subst (MayBeDone of_one before_call) (sym called)
           (cert_good b (omega arith), subst (λ (prefix : List Shown). IsStored prefix (block_digest b) 2) (sym two) (2, named b, omega arith, refl, (refl, refl)));
@@ -315,7 +312,7 @@ module _ (reads : ReadsSpellings) where
     }
 
     c_parent : (others : List Named) → parent_in (first_block ∷ others) (named c) ≡ Some first_block
-    c_parent others = rw (false_eq (block_digest c) first_digest c_other) refl
+    c_parent others = rw (false_other (block_digest c) first_digest c_other) refl
 
     not_led : (others : List Named) (steps : ℕ) → Leads (first_block ∷ others) steps (named c) (named a) → ⊥
     not_led others zero is = a_is_not_c (ap (λ (n : Named). n.digest) (sym is))

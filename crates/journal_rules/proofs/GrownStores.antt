@@ -12,9 +12,10 @@ use Rattle.block_store.specs.Store.{block_digest, has_digest, block_at, is_other
 use Rattle.agreement_laws.specs.Journals.{Named, first_block}
 use Rattle.agreement_laws.specs.JournalPrefixes.{block_at as shown_at}
 use Rattle.agreement_laws.proofs.Lists.{here, there, here_or_there, none_inside}
+use Rattle.agreement_laws.proofs.Digests.{false_other, same_true}
 use Rattle.journal_rules.specs.Shown.{named}
 use Rattle.journal_rules.specs.Stores.{at, HasParent, IsTied}
-use Rattle.journal_rules.proofs.Stores.{eq_true, false_eq, eq_false, eq_sym, at_first, at_other, at_cases}
+use Rattle.journal_rules.proofs.Stores.{eq_false, eq_sym, at_first, at_other, at_cases}
 
 -- in a list with one more block
 pub last_shown : (blocks : List Named) (b : Named) (d : Digest) → shown_at (blocks ++ b ∷ []) d ≡ option_or (shown_at blocks d) (cond (digest_eq b.digest d) (Some b) None)
@@ -48,7 +49,7 @@ elsewhere store b d other = by (is_some (block_at store (block_digest b)))
     by true = refl
     by false =
         find-append (has_digest d) store (b ∷ [])
-        ∙ ap (λ (t : Bool). option_or (block_at store d) (cond t (Some b) None)) (false_eq d (block_digest b) other)
+        ∙ ap (λ (t : Bool). option_or (block_at store d) (cond t (Some b) None)) (false_other d (block_digest b) other)
         ∙ or_none (block_at store d)
 
 -- a block that is stored after its parent, and clashes with none
@@ -88,7 +89,7 @@ module _ (store : List Block) (b : Block) (stays : (d : Digest) (x : Block) → 
         by_digest : (d : Digest) (x : Block) → block_at after d ≡ Some x → HasParent after x
         by_digest d x at_x = elim (cases_Bool (digest_eq d (block_digest b))) [
           | inl is ↦
-              let one : Some b ≡ Some x = sym found ∙ ap (block_at after) (sym (eq_true d (block_digest b) is)) ∙ at_x in
+              let one : Some b ≡ Some x = sym found ∙ ap (block_at after) (sym (same_true d (block_digest b) is)) ∙ at_x in
               let same : b ≡ x = cc in
               subst (HasParent after) same own
           | inr not ↦ parent_stays x (tied.parents d x (sym (elsewhere store b d (eq_false d (block_digest b) not)) ∙ at_x))
@@ -96,7 +97,7 @@ module _ (store : List Block) (b : Block) (stays : (d : Digest) (x : Block) → 
 
         same : (d : Digest) → shown_at (blocks ++ named b ∷ []) d ≡ at after d
         same d = last_shown blocks (named b) d ∙ ap (λ (o : Option Named). option_or o (cond (digest_eq (block_digest b) d) (Some (named b)) None)) (tied.same d) ∙ elim (cases_Bool (digest_eq (block_digest b) d)) [
-          | inl is ↦ rw is (here_same d (eq_true (block_digest b) d is) (at store d) refl)
+          | inl is ↦ rw is (here_same d (same_true (block_digest b) d is) (at store d) refl)
           | inr not ↦ rw not (or_none (at store d) ∙ sym (at_elsewhere d (λ is. eq_false (block_digest b) d not (sym is))))
         ]
           where

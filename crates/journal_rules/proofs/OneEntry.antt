@@ -47,9 +47,9 @@ itself n other = absurd (other refl)
 nothing_broken : (by : Scale) → IsLawful by []
 nothing_broken by = each_none (KeepsAll by)
 
--- each names replica 0
-abbrev Own : List ℕ → Type 0
-Own statement = replica_named statement ≡ 0
+-- a statement names replica 0
+abbrev pub NamesReplica0 : List ℕ → Type 0
+NamesReplica0 statement = replica_named statement ≡ 0
 
 -- an entry that is Done and stores nothing
 takes_nothing : (by : Scale) (e : Entry) → is_done e.turned.reason ≡ true → MayBeDone by [] (message_in e.event) → ((b : Named) → stored_by (shown e) ≡ Some b → ⊥)
@@ -84,7 +84,7 @@ breaks_knows = (
   nothing_broken (one_arrives all_fit),
   λ knows. absurd (omega (arith, knows.all)),
   others (one_arrives all_fit) [] forgetting 1 (itself 1)
-      (λ o. takes_nothing (one_arrives all_fit) forgetting refl tt (λ b is. none-some b is) (All-nil Own) (few_marks [] (omega arith)))
+      (λ o. takes_nothing (one_arrives all_fit) forgetting refl tt (λ b is. none-some b is) (All-nil NamesReplica0) (few_marks [] (omega arith)))
       (λ o. All-nil (drawn_if (one_arrives all_fit) forgetting)) (λ o. (no_votes (one_arrives all_fit) forgetting refl).0) (λ o. (no_votes (one_arrives all_fit) forgetting refl).1),
 )
 
@@ -102,7 +102,7 @@ naming = NEW_VIEW ∷ 1 ∷ 0 ∷ 0 ∷ 0 ∷ 1 ∷ []
 pub breaks_own : BreaksAlone (one_arrives all_fit) naming_another 2
 breaks_own = (
   nothing_broken (one_arrives all_fit),
-  λ takes. (let one : 1 ≡ 0 = All-head Own naming [] takes.own in absurd (omega (arith, one))),
+  λ takes. (let one : 1 ≡ 0 = All-head NamesReplica0 naming [] takes.own in absurd (omega (arith, one))),
   others (one_arrives all_fit) [] naming_another 2 (λ o. record { first = refl; all = refl }) (itself 2)
       (λ o. All-cons (drawn_if (one_arrives all_fit) naming_another) naming [] (λ is. absurd (omega (arith, is))) (All-nil (drawn_if (one_arrives all_fit) naming_another)))
       (λ o. (no_votes (one_arrives all_fit) naming_another refl).0) (λ o. (no_votes (one_arrives all_fit) naming_another refl).1),
@@ -130,7 +130,7 @@ breaks_draws = (
       let long : 6 < length (order_spelling o) = long_spelling o in
       absurd (omega (arith, same, long))),
   others (one_arrives all_fit) [] sealing_no_order 3 (λ o. record { first = refl; all = refl })
-      (λ o. takes_nothing (one_arrives all_fit) sealing_no_order refl tt (λ b is. none-some b is) (All-cons Own (ORDER ∷ 0 ∷ 0 ∷ 0 ∷ 0 ∷ 1 ∷ []) [] refl (All-nil Own)) (few_marks (record { kind = ORDER; view = 1 } ∷ []) (omega arith))) (itself 3)
+      (λ o. takes_nothing (one_arrives all_fit) sealing_no_order refl tt (λ b is. none-some b is) (All-cons NamesReplica0 (ORDER ∷ 0 ∷ 0 ∷ 0 ∷ 0 ∷ 1 ∷ []) [] refl (All-nil NamesReplica0)) (few_marks (record { kind = ORDER; view = 1 } ∷ []) (omega arith))) (itself 3)
       (λ o. (no_votes (one_arrives all_fit) sealing_no_order refl).0) (λ o. (no_votes (one_arrives all_fit) sealing_no_order refl).1),
 )
 
@@ -141,7 +141,7 @@ breaks_votes = (
       let other : Plain.Other ≡ Plain.Propose v.block = v.delivered in
       absurd (cc)),
   others (one_arrives all_fit) [] voting_for_nothing 5 (λ o. record { first = refl; all = refl })
-      (λ o. takes_nothing (one_arrives all_fit) voting_for_nothing refl tt (λ b is. none-some b is) (All-cons Own (VOTE ∷ 0 ∷ 0 ∷ 0 ∷ 0 ∷ 1 ∷ []) [] refl (All-nil Own)) (few_marks (record { kind = VOTE; view = 1 } ∷ []) (omega arith)))
+      (λ o. takes_nothing (one_arrives all_fit) voting_for_nothing refl tt (λ b is. none-some b is) (All-cons NamesReplica0 (VOTE ∷ 0 ∷ 0 ∷ 0 ∷ 0 ∷ 1 ∷ []) [] refl (All-nil NamesReplica0)) (few_marks (record { kind = VOTE; view = 1 } ∷ []) (omega arith)))
       (λ o. All-cons (drawn_if (one_arrives all_fit) voting_for_nothing) (VOTE ∷ 0 ∷ 0 ∷ 0 ∷ 0 ∷ 1 ∷ []) [] (λ is. absurd (omega (arith, is))) (All-nil (drawn_if (one_arrives all_fit) voting_for_nothing)))
       (λ o. record { rise = λ i j d less inside. absurd (omega (arith, less, inside)); above_lock = All-cons (λ (v : Ballot). 0 < v.view) (ballot 1 (record { 0 = [] })) [] (omega arith) (All-nil (λ (v : Ballot). 0 < v.view)) })
       (itself 5),

@@ -2,10 +2,10 @@
 use Rattle.std.proofs.Common.{◌≡◌, ℕ, zero, suc, ◌+◌, ◌<◌, ◌≤◌, max, nat_lt, arith, ◌==◌, ◌&&◌, if◌then◌else◌, List, [], ◌∷◌, length, Bool, true, false, cond, Option, Some, None, refl, sym, ap, ◌∙◌, inl, inr}
 use Rattle.std.specs.Prelude.{unwrap_or}
 use Rattle.std.specs.Option.{option_map, option_map_or, option_and_then}
-use Rattle.std.proofs.lemmas.Bool.{cases_Bool, or_cases, false_from_ne_true, both_ways}
+use Rattle.std.proofs.lemmas.Bool.{cases_Bool, or_cases, both_ways}
 use Rattle.seq_base.specs.declared.digest.Digest.{Digest}
 use Rattle.seq_base.specs.declared.block.Block.{Block}
-use Rattle.seq_base.specs.Blocks.{first_digest, digest_eq, digest_eq_decides}
+use Rattle.seq_base.specs.Blocks.{first_digest, digest_eq}
 use Rattle.sha2.specs.Sha256.{sha256, digest_bytes}
 use Rattle.block_store.specs.Store.{block_digest, block_at, is_stored, view_of}
 use Rattle.block_store.specs.Chains.{parent_of, reaches}
@@ -15,43 +15,35 @@ use Rattle.agreement_laws.specs.Journals.{Named, first_block}
 use Rattle.agreement_laws.specs.JournalPrefixes as prefixes
 use Rattle.agreement_laws.specs.JournalPrefixes.{parent_in, head_if, head_after, Leads}
 use Rattle.agreement_laws.specs.Seen.{higher, lock_seen, commit_seen}
+use Rattle.agreement_laws.proofs.Digests.{false_other, same_true, true_same}
 use Rattle.journal_rules.specs.Shown.{named}
 use Rattle.journal_rules.specs.Stores.{at, HasParent, IsTied}
 
-pub true_eq : (a b : Digest) → a ≡ b → digest_eq a b ≡ true
-true_eq a b same = (digest_eq_decides a b).1 same
-
-pub eq_true : (a b : Digest) → digest_eq a b ≡ true → a ≡ b
-eq_true a b is = (digest_eq_decides a b).0 is
-
-pub false_eq : (a b : Digest) → (a ≡ b → ⊥) → digest_eq a b ≡ false
-false_eq a b other = false_from_ne_true (digest_eq a b) (λ is. other (eq_true a b is))
-
 pub eq_false : (a b : Digest) → digest_eq a b ≡ false → a ≡ b → ⊥
-eq_false a b is same = both_ways (digest_eq a b) is (true_eq a b same)
+eq_false a b is same = both_ways (digest_eq a b) is (true_same a b same)
 
 pub eq_sym : (a b : Digest) → digest_eq a b ≡ digest_eq b a
 eq_sym a b = elim (cases_Bool (digest_eq b a)) [
-  | inl is ↦ true_eq a b (sym (eq_true b a is)) ∙ sym is
-  | inr not ↦ false_eq a b (λ same. eq_false b a not (sym same)) ∙ sym not
+  | inl is ↦ true_same a b (sym (same_true b a is)) ∙ sym is
+  | inr not ↦ false_other a b (λ same. eq_false b a not (sym same)) ∙ sym not
 ]
 
 -- ---- what `at` answers
 
 pub at_first : (store : List Block) (d : Digest) → d ≡ first_digest → at store d ≡ Some first_block
-at_first store d is = rw (true_eq d first_digest is)
+at_first store d is = rw (true_same d first_digest is)
 
 pub at_other : (store : List Block) (d : Digest) → (d ≡ first_digest → ⊥) → at store d ≡ option_map named (block_at store d)
-at_other store d other = rw (false_eq d first_digest other)
+at_other store d other = rw (false_other d first_digest other)
 
 -- the first block, or one that is found
 pub at_cases : (store : List Block) (d : Digest) (b : Named) (P : Type 0) → at store d ≡ Some b → (d ≡ first_digest → first_block ≡ b → P)
     → ((d ≡ first_digest → ⊥) → (x : Block) → block_at store d ≡ Some x → named x ≡ b → P) → P
 at_cases store d b P found first other = elim (cases_Bool (digest_eq d first_digest)) [
   | inl is ↦
-      let one : Some first_block ≡ Some b = sym (at_first store d (eq_true d first_digest is)) ∙ found in
+      let one : Some first_block ≡ Some b = sym (at_first store d (same_true d first_digest is)) ∙ found in
       let same : first_block ≡ b = cc in
-      first (eq_true d first_digest is) same
+      first (same_true d first_digest is) same
   | inr not ↦ by (block_at store d) refl (sym (at_other store d (eq_false d first_digest not)) ∙ found) (eq_false d first_digest not)
 ]
   where
@@ -71,7 +63,7 @@ found_digest (y ∷ store) d x found = by (digest_eq d (block_digest y)) refl (f
     by true is later =
         let one : Some y ≡ Some x = ap (λ (t : Bool). cond t (Some y) (block_at store d)) (sym is) ∙ found in
         let same : y ≡ x = cc in
-        rw (← same) (sym (eq_true d (block_digest y) is))
+        rw (← same) (sym (same_true d (block_digest y) is))
     by false is later = later (ap (λ (t : Bool). cond t (Some y) (block_at store d)) (sym is) ∙ found)
 
 pub at_digest : (store : List Block) (d : Digest) (b : Named) → at store d ≡ Some b → b.digest ≡ d
@@ -81,18 +73,18 @@ at_digest store d b found = at_cases store d b (b.digest ≡ d) found
 
 pub at_view : (store : List Block) (d : Digest) (b : Named) → at store d ≡ Some b → view_at store d ≡ b.view
 at_view store d b found = at_cases store d b (view_at store d ≡ b.view) found
-    (λ is same. rw (true_eq d first_digest is) (ap (λ (n : Named). n.view) same))
-    (λ not x is same. rw (false_eq d first_digest not, is) (ap (λ (n : Named). n.view) same))
+    (λ is same. rw (true_same d first_digest is) (ap (λ (n : Named). n.view) same))
+    (λ not x is same. rw (false_other d first_digest not, is) (ap (λ (n : Named). n.view) same))
 
 pub view_found : (store : List Block) (d : Digest) (b : Named) → at store d ≡ Some b → view_of store d ≡ Some b.view
 view_found store d b found = at_cases store d b (view_of store d ≡ Some b.view) found
-    (λ is same. rw (true_eq d first_digest is) (ap (λ (n : Named). Some n.view) same))
-    (λ not x is same. rw (false_eq d first_digest not, is) (ap (λ (n : Named). Some n.view) same))
+    (λ is same. rw (true_same d first_digest is) (ap (λ (n : Named). Some n.view) same))
+    (λ not x is same. rw (false_other d first_digest not, is) (ap (λ (n : Named). Some n.view) same))
 
 -- a stored block is found
 pub stored_found : (store : List Block) (d : Digest) → is_stored store d ≡ true → (b : Named) × (at store d ≡ Some b)
 stored_found store d stored = elim (cases_Bool (digest_eq d first_digest)) [
-  | inl is ↦ (first_block, at_first store d (eq_true d first_digest is))
+  | inl is ↦ (first_block, at_first store d (same_true d first_digest is))
   | inr not ↦ by (block_at store d) refl (eq_false d first_digest not) not
 ]
   where
@@ -116,8 +108,8 @@ stored_long store d there =
 
 pub found_stored : (store : List Block) (d : Digest) (b : Named) → at store d ≡ Some b → is_stored store d ≡ true
 found_stored store d b found = at_cases store d b (is_stored store d ≡ true) found
-    (λ is same. rw (true_eq d first_digest is))
-    (λ not x is same. rw (false_eq d first_digest not, is))
+    (λ is same. rw (true_same d first_digest is))
+    (λ not x is same. rw (false_other d first_digest not, is))
 
 same_named : (store : List Block) (d e : Digest) (b a : Named) → at store d ≡ Some b → at store e ≡ Some a → d ≡ e → b ≡ a
 same_named store d e b a found other is =
@@ -145,7 +137,7 @@ module _ (store : List Block) (blocks : List Named) (tied : IsTied store blocks)
       (λ is same. rw (is, none_at_first, ← same) tt)
       (λ not x is same.
       let p : HasParent store x = tied.parents d x is in
-      let other : digest_eq (block_digest x) first_digest ≡ false = false_eq (block_digest x) first_digest p.other in
+      let other : digest_eq (block_digest x) first_digest ≡ false = false_other (block_digest x) first_digest p.other in
       rw (is, ← same, other, tied.same x.cert.block, p.found) p.found)
 
   -- what changes only to a greater view
@@ -211,7 +203,7 @@ module _ (store : List Block) (blocks : List Named) (tied : IsTied store blocks)
             (λ first same. let none : None ≡ Some p = sym (rw (← same) refl) ∙ is in absurd (cc))
             (λ not x at_x same.
             let q : HasParent store x = tied.parents c x at_x in
-            let other : digest_eq (block_digest x) first_digest ≡ false = false_eq (block_digest x) first_digest q.other in
+            let other : digest_eq (block_digest x) first_digest ≡ false = false_other (block_digest x) first_digest q.other in
             let one : Some q.parent ≡ Some p = sym (rw (← same, other, tied.same x.cert.block) q.found) ∙ is in
             let p_is : q.parent ≡ p = cc in
             let view_is : b.view ≡ x.view = ap (λ (n : Named). n.view) (sym same) in
@@ -232,9 +224,9 @@ module _ (store : List Block) (blocks : List Named) (tied : IsTied store blocks)
   -- ---- parent steps
 
   pub leads : (steps : ℕ) (d to : Digest) (b a : Named) → at store d ≡ Some b → at store to ≡ Some a → reaches steps store d to ≡ true → (k : ℕ) × Leads blocks k b a
-  leads zero d to b a found found_a is = (0, same_named store d to b a found found_a (eq_true d to is))
+  leads zero d to b a found found_a is = (0, same_named store d to b a found found_a (same_true d to is))
   leads (suc steps) d to b a found found_a is = elim (or_cases (digest_eq d to) _ is) [
-    | inl here ↦ (0, same_named store d to b a found found_a (eq_true d to here))
+    | inl here ↦ (0, same_named store d to b a found found_a (same_true d to here))
     | inr there ↦ by (parent_of store d) (parent_in blocks b) refl (parent_same d b found) there (λ e p at_e. leads steps e to p a at_e found_a)
   ]
     where

@@ -24,7 +24,7 @@ use Rattle.run_verdict.specs.Forged.{first_forged_of}
 use Rattle.run_verdict.specs.Collided.{first_collision_of}
 use Rattle.run_verdict.specs.Verdicts.{is_record_done, audited, verdict_of}
 use Rattle.lawful_runs.specs.Spent.{WasSpent}
-use Rattle.lawful_runs.proofs.Places.{found_at}
+use Rattle.round_rules.proofs.Places.{found_at}
 
 -- a list of batches holds what is due, where there is one
 abbrev has_all : List Tx → Option (List (List Tx)) → Bool

@@ -42,7 +42,7 @@ use Rattle.replica_seat.specs.Arrivals.{IsArrivalList}
 use Rattle.lawful_runs.specs.Honest.{IsRun, capacity_at}
 use Rattle.replica_seat.specs.Senders.{IsFrom}
 use Rattle.lawful_runs.specs.Lawful.{IsReadableRun, AreMadeFor}
-use Rattle.lawful_runs.proofs.Places.{found_at}
+use Rattle.round_rules.proofs.Places.{found_at}
 use Rattle.lawful_runs.proofs.Worlds.{Good, ends_good}
 
 -- ---- the count of faulty replicas

@@ -2,7 +2,6 @@ pub mod Dues
 pub mod Lawfulness
 pub mod NextEvent
 mod NodeRuns
-pub mod Places
 mod RoundsLawful
 mod RoundsSealCounts
 pub mod SealCounts

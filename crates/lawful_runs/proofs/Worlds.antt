@@ -35,7 +35,7 @@ use Rattle.lawful_runs.specs.Honest.{IsRun, HaveMadeNothing, capacity_at}
 use Rattle.lawful_runs.specs.Lawful.{AreMadeFor}
 use Rattle.replica_seat.specs.Senders.{IsFrom}
 use Rattle.lawful_runs.proofs.NextEvent.{state_more, journal_more}
-use Rattle.lawful_runs.proofs.Places.{set_cases, length_set, get_set}
+use Rattle.round_rules.proofs.Places.{set_cases, length_set, get_set}
 
 -- ---- one replica
 

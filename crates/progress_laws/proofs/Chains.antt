@@ -12,9 +12,9 @@ use Rattle.seq_base.specs.Blocks.{first_digest}
 use Rattle.block_store.specs.Store.{block_digest, has_digest, block_at, is_stored, view_of, clashes, with_block}
 use Rattle.block_store.specs.Chains.{parent_of}
 use Rattle.hotstuff_core.specs.Rules.{State as Safe, view_at, is_safe, moved, seen_in}
-use Rattle.journal_rules.proofs.Stores.{eq_true, false_eq, true_eq}
-use Rattle.lawful_runs.proofs.Places.{found_at}
+use Rattle.round_rules.proofs.Places.{found_at}
 use Rattle.progress_laws.proofs.Items.{get_prefix, get_more}
+use Rattle.agreement_laws.proofs.Digests.{false_other, same_true, true_same}
 
 -- ---- lists
 
@@ -59,17 +59,17 @@ safe bs voted high = record { voted = voted; lock = digest_at bs (pred high); co
 
 module _ (bs : List Block) (chain : IsChain bs) where
   pub stored_at : (k : ℕ) (b : Block) → slice_get bs k ≡ Some b → block_at bs (block_digest b) ≡ Some b
-  stored_at k b found = find_only (has_digest (block_digest b)) bs k b found (true_eq (block_digest b) (block_digest b) refl)
-      (λ j y at passes. chain.apart j k y b at found (sym (eq_true (block_digest b) (block_digest y) passes)))
+  stored_at k b found = find_only (has_digest (block_digest b)) bs k b found (true_same (block_digest b) (block_digest b) refl)
+      (λ j y at passes. chain.apart j k y b at found (sym (same_true (block_digest b) (block_digest y) passes)))
 
   none_first : block_at bs first_digest ≡ None
-  none_first = find_none (has_digest first_digest) bs (λ j y at. false_eq first_digest (block_digest y) (λ same. chain.above j y at (sym same)))
+  none_first = find_none (has_digest first_digest) bs (λ j y at. false_other first_digest (block_digest y) (λ same. chain.above j y at (sym same)))
 
   pub view_is : (k : ℕ) → k ≤ length bs → view_of bs (digest_at bs k) ≡ Some k
   view_is zero inside = refl
   view_is (suc k) inside =
       let (b, found) = found_at bs k (omega (arith, inside)) in
-      rw (found, false_eq (block_digest b) first_digest (chain.above k b found), stored_at k b found) (ap Some (chain.views k b found))
+      rw (found, false_other (block_digest b) first_digest (chain.above k b found), stored_at k b found) (ap Some (chain.views k b found))
 
   pub view_at_is : (k : ℕ) → k ≤ length bs → view_at bs (digest_at bs k) ≡ k
   view_at_is k inside = rw (view_is k inside)
@@ -78,7 +78,7 @@ module _ (bs : List Block) (chain : IsChain bs) where
   is_stored_at zero inside = refl
   is_stored_at (suc k) inside =
       let (b, found) = found_at bs k (omega (arith, inside)) in
-      rw (found, false_eq (block_digest b) first_digest (chain.above k b found), stored_at k b found)
+      rw (found, false_other (block_digest b) first_digest (chain.above k b found), stored_at k b found)
 
   pub parent_is : (k : ℕ) → suc k ≤ length bs → parent_of bs (digest_at bs (suc k)) ≡ Some (digest_at bs k)
   parent_is k inside =
@@ -140,10 +140,10 @@ pub record IsNext (bs : List Block) (b : Block) : Type 0 where
 
 module _ (bs : List Block) (b : Block) (next : IsNext bs b) where
   none_stored : block_at bs (block_digest b) ≡ None
-  none_stored = find_none (has_digest (block_digest b)) bs (λ j y at. false_eq (block_digest b) (block_digest y) (λ same. next.apart j y at (sym same)))
+  none_stored = find_none (has_digest (block_digest b)) bs (λ j y at. false_other (block_digest b) (block_digest y) (λ same. next.apart j y at (sym same)))
 
   pub no_clash : clashes bs (block_digest b) b ≡ false
-  no_clash = rw (false_eq (block_digest b) first_digest next.above, none_stored)
+  no_clash = rw (false_other (block_digest b) first_digest next.above, none_stored)
 
   pub goes_last : with_block b bs ≡ bs ++ b ∷ []
   goes_last = rw none_stored

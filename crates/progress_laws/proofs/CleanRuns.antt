@@ -51,7 +51,7 @@ use Rattle.progress_laws.proofs.Underway.{Came, Rests}
 use Rattle.progress_laws.proofs.TenPhases.{IsWhole, run_from_calls}
 use Rattle.progress_laws.proofs.InitialSteps.{Base, Grounds, HasHad, rest0}
 use Rattle.progress_laws.proofs.FirstTick.{after_ticks, first_step, all_called}
-use Rattle.lawful_runs.proofs.Places.{found_at}
+use Rattle.round_rules.proofs.Places.{found_at}
 use Rattle.std.proofs.lemmas.List.FromFn.{length-range_with_len}
 use Rattle.progress_laws.proofs.Items.{got_map, same_lists, each_from_get, each_map}
 

@@ -34,7 +34,7 @@ use Rattle.progress_laws.proofs.Worlds.{envelope, following, event_is, Grew, gre
 use Rattle.progress_laws.proofs.Phases.{Queue, queue_more, Happened, Going, Course}
 use Rattle.progress_laws.proofs.Underway.{sealed_by, Rests}
 use Rattle.progress_laws.proofs.FirstView.{no_chain, first_written, Called, Calls}
-use Rattle.lawful_runs.proofs.Places.{found_at, get_set}
+use Rattle.round_rules.proofs.Places.{found_at, get_set}
 use Rattle.progress_laws.proofs.Items.{get_mid}
 use Rattle.progress_laws.proofs.InitialSteps.{rest0, Fresh, Grounds, Evented, event_on, HasHad, all_given}
 

@@ -34,7 +34,8 @@ use Rattle.progress_laws.proofs.Unforged.{AreSealedIn, unforged}
 use Rattle.std.proofs.lemmas.List.{length-map}
 use Rattle.std.proofs.lemmas.Bool.{or_right}
 use Rattle.std.proofs.lemmas.Option.{none-some}
-use Rattle.progress_laws.proofs.Items.{got_map, each_is, each_from_get, each_at, each_map, all_pass}
+use Rattle.progress_laws.proofs.Items.{got_map, each_is, each_from_get, each_map, all_pass}
+use Rattle.round_rules.proofs.Places.{all_at}
 
 -- nothing is due if all lists are empty
 due_none : (honest : ℕ → Bool) (i : ℕ) (lists : List (List Tx)) → Each (λ list. list ≡ []) lists → in_all (map (λ (item : ℕ × List Tx). item.1) (honest_items honest i lists)) ≡ []
@@ -63,7 +64,7 @@ module _ (fits : Check) (plan : Plan) (nothing : BringsNothing plan) (sealers : 
   start = start_of plan sealers
 
   empty_feed : (k : ℕ) (x : Signer) → slice_get sealers k ≡ Some x → timed_for plan x.replica ≡ []
-  empty_feed k x found = none_of_map (λ (t : TimedTx). t.tx) (timed_for plan x.replica) (nothing x.replica (each_at (λ (s : Signer). s.replica < plan.setting.n) sealers k x made.below found))
+  empty_feed k x found = none_of_map (λ (t : TimedTx). t.tx) (timed_for plan x.replica) (nothing x.replica (all_at (λ (s : Signer). s.replica < plan.setting.n) sealers k x made.below found))
 
   replicas_empty : (k : ℕ) (r : Replica) → slice_get start.replicas k ≡ Some r → (r.feed.left ≡ []) × (r.feed.txs ≡ []) × (r.journal ≡ [])
   unfolding start_of feed_of

@@ -27,7 +27,7 @@ use Rattle.progress_laws.proofs.StateSummary.{Rest, standing, state_at}
 use Rattle.progress_laws.proofs.CallSteps.{ticks}
 use Rattle.progress_laws.proofs.Worlds.{AreClear, AreWithin, envelope, Passed, pass_all, following, world_after, event_is}
 use Rattle.progress_laws.proofs.Phases.{AreSealed, AllSealed, Course}
-use Rattle.lawful_runs.proofs.Places.{found_at, set_cases, length_set, get_set}
+use Rattle.round_rules.proofs.Places.{found_at, set_cases, length_set, get_set}
 use Rattle.progress_laws.proofs.Items.{each_more}
 
 all_now : (list : List TimedTx) → All (λ t. t.turn ≡ 0) list → count_by_now 0 list ≡ length list

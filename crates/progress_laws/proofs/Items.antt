@@ -1,8 +1,7 @@
 -- Items of lists at places, and what holds of each item.
-use Rattle.std.proofs.Common.{◌≡◌, ℕ, zero, suc, ◌+◌, ◌<◌, List, [], ◌∷◌, ◌++◌, length, map, Bool, true, Some, refl, sym, ap, subst, ◌∙◌, arith}
-use Rattle.std.specs.Prelude.{All, slice_get, slice_set}
-use Rattle.std.specs.List.{AllByRecursion as Each, list_all, range_with_len}
-use Rattle.std.proofs.lemmas.List.Elements.{All-head, All-tail}
+use Rattle.std.proofs.Common.{◌≡◌, ℕ, zero, suc, ◌<◌, List, [], ◌∷◌, ◌++◌, length, map, Bool, true, Some, refl, sym, ap, ◌∙◌, arith}
+use Rattle.std.specs.Prelude.{slice_get, slice_set}
+use Rattle.std.specs.List.{AllByRecursion as Each, list_all}
 
 -- ---- at places
 
@@ -31,18 +30,6 @@ got_map f [] k y found = absurd (cc)
 got_map f (x ∷ xs) zero y found = (x, refl, (let same : f x ≡ y = cc in same))
 got_map f (x ∷ xs) (suc k) y found = got_map f xs k y found
 
-pub got_range : (i m k : ℕ) → k < m → slice_get (range_with_len i m) k ≡ Some (i + k)
-got_range i zero k inside = absurd (omega (arith, inside))
-got_range i (suc m) zero inside = (let same : i ≡ i + 0 = omega arith in ap Some same)
-got_range i (suc m) (suc k) inside = got_range (i + 1) m k (omega (arith, inside)) ∙ (let same : i + 1 + k ≡ i + suc k = omega arith in ap Some same)
-
-pub get_other : {X : Type 0} (xs : List X) (i j : ℕ) (x : X) → (i ≡ j → ⊥) → slice_get (slice_set xs i x) j ≡ slice_get xs j
-get_other [] i j x other = refl
-get_other (z ∷ xs) zero zero x other = absurd (other refl)
-get_other (z ∷ xs) zero (suc j) x other = refl
-get_other (z ∷ xs) (suc i) zero x other = refl
-get_other (z ∷ xs) (suc i) (suc j) x other = get_other xs i j x (λ same. other (ap suc same))
-
 pub set_same : {X : Type 0} (xs : List X) (i : ℕ) (x : X) → slice_get xs i ≡ Some x → slice_set xs i x ≡ xs
 set_same [] i x found = refl
 set_same (z ∷ xs) zero x found = (let same : z ≡ x = cc in ap (λ y. y ∷ xs) (sym same))
@@ -68,11 +55,6 @@ each_is P (x ∷ xs) f = (f x, each_is P xs f)
 pub each_from_get : {X : Type 0} (P : X → Type 0) (xs : List X) → ((k : ℕ) (x : X) → slice_get xs k ≡ Some x → P x) → Each P xs
 each_from_get P [] f = tt
 each_from_get P (x ∷ xs) f = (f 0 x refl, each_from_get P xs (λ k y found. f (suc k) y found))
-
-pub each_at : {X : Type 0} (P : X → Type 0) (xs : List X) (k : ℕ) (x : X) → All P xs → slice_get xs k ≡ Some x → P x
-each_at P [] k x all found = absurd (cc)
-each_at P (y ∷ xs) zero x all found = (let same : y ≡ x = cc in subst P same (All-head P y xs all))
-each_at P (y ∷ xs) (suc k) x all found = each_at P xs k x (All-tail P y xs all) found
 
 pub each_map : {X Y : Type 0} (h : X → Y) (P : Y → Type 0) (xs : List X) → Each (λ x. P (h x)) xs → Each P (map h xs)
 each_map h P [] each = tt

@@ -14,7 +14,8 @@ use Rattle.node_core.specs.Rows.{Check}
 use Rattle.replica_seat.specs.Kits.{kit_of}
 use Rattle.progress_laws.specs.Clean.{SealsFit}
 use Rattle.std.proofs.lemmas.List.FromFn.{length-range_with_len}
-use Rattle.progress_laws.proofs.Items.{got_map, got_range}
+use Rattle.progress_laws.proofs.Items.{got_map}
+use Rattle.round_rules.proofs.Places.{range_at}
 
 -- a sealer of the replica: it has made no seal and can make enough, and its seals fit and are short
 pub record IsSealerOf (fits : Check) (replica : ℕ) (s : Signer) : Type 0 where
@@ -35,7 +36,7 @@ at_place gives capacity n r s found =
     let (x, at_x, is) = got_map (λ r. signer r capacity (gives r) 0) (range_with_len 0 n) r s found in
     let inside : r < length (range_with_len 0 n) = slice_get_within (range_with_len 0 n) r x at_x in
     let below : r < n = omega (arith, inside, length-range_with_len 0 n) in
-    let same : x ≡ r = same_Some x r (sym at_x ∙ got_range 0 n r below ∙ (let zero_is : 0 + r ≡ r = omega arith in ap Some zero_is)) in
+    let same : x ≡ r = same_Some x r (sym at_x ∙ range_at 0 n r below ∙ (let zero_is : 0 + r ≡ r = omega arith in ap Some zero_is)) in
     (below, ap (λ (y : ℕ). signer y capacity (gives y) 0) (sym same) ∙ is)
 
 pub are_sealers : (fits : Check) (gives : ℕ → Gives) (capacity n : ℕ) → 20 ≤ capacity → SealsFit fits n gives → AreSealers fits n (kit_of gives capacity n)

@@ -19,7 +19,7 @@ use Rattle.chain_state.specs.Standings.{Standings, fits as fits_chain, is_used, 
 use Rattle.quorum_cert.specs.Certificates.{is_good, is_first, has_quorum}
 use Rattle.chain_store.specs.Chains.{chain_state_of}
 use Rattle.headline_laws.proofs.Orders.{writable_list}
-use Rattle.journal_rules.proofs.Stores.{block_long, true_eq}
+use Rattle.journal_rules.proofs.Stores.{block_long}
 use Rattle.node_core.specs.Rows.{Check, is_fit, is_placed, is_sealed, lists_fit}
 use Rattle.node_core.specs.State.{Known}
 use Rattle.run_verdict.specs.Parts.{Part, part, vote_part, cert_parts, order_part, block_parts}
@@ -28,9 +28,10 @@ use Rattle.progress_laws.proofs.StateSummary.{eq_yes, lt_yes}
 use Rattle.progress_laws.proofs.ProposeStep.{order_over}
 use Rattle.progress_laws.proofs.ReplicaLists.{RunFrom, rises_below, rises_from}
 use Rattle.progress_laws.proofs.VoteSteps.{voter, orderer}
-use Rattle.lawful_runs.proofs.Places.{found_at}
+use Rattle.round_rules.proofs.Places.{found_at}
 use Rattle.std.proofs.lemmas.Bool.{and_from, or_right}
 use Rattle.progress_laws.proofs.Items.{each_more}
+use Rattle.agreement_laws.proofs.Digests.{true_same}
 
 pub digest_long : (bs : List Block) (k : ℕ) → k ≤ length bs → length (digest_at bs k).0 ≡ 32
 digest_long bs zero inside = refl
@@ -118,7 +119,7 @@ module _ (fits : Check) (s : Parameters) (lists : ℕ → List Tx) (WasSealed : 
       let view : o.order.view ≡ b.view = ap (λ (x : LocalOrder). x.view) each.0.drawn ∙ sym made.view in
       let parent : o.order.parent ≡ b.cert.block = ap (λ (x : LocalOrder). x.parent) each.0.drawn ∙ sym made.cert_block in
       and_from (is_placed known b o.order) _
-      (and_from _ _ (eq_yes o.order.view b.view view) (and_from _ _ (true_eq o.order.parent b.cert.block parent) (rw setting (lt_yes o.order.replica s.n each.0.below))))
+      (and_from _ _ (eq_yes o.order.view b.view view) (and_from _ _ (true_same o.order.parent b.cert.block parent) (rw setting (lt_yes o.order.replica s.n each.0.below))))
       (placed known b setting made orders each.1)
 
   fit_lists : (known : Known) (b : Block) → known.setting ≡ s → known.store ≡ bs → IsMade b → (orders : List SealedOrder) → Each IsGoodOrder orders → list_all (λ sealed. lists_fit known b.cert.block sealed.order) orders ≡ true

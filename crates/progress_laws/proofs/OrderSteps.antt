@@ -12,7 +12,6 @@ use Rattle.seq_base.specs.Spelling.{order_spelling, propose_spelling, message_sp
 use Rattle.chain_state.specs.Standings.{fits as fits_chain}
 use Rattle.node_core.specs.declared.event.Reason.TheVariants.{Done, OldView}
 use Rattle.chain_store.specs.Chains.{chain_state_of}
-use Rattle.journal_rules.proofs.Stores.{true_eq}
 use Rattle.node_core.specs.State.{Known}
 use Rattle.node_core.specs.Reported.{Gives, quiet, reported, to_each}
 use Rattle.node_core.specs.Rows.{Check}
@@ -20,6 +19,7 @@ use Rattle.node_core.specs.Order.{order_rows, order_reason, kept_order_rows, kep
 use Rattle.progress_laws.proofs.StateSummary.{eq_yes, eq_no, lt_yes, lt_no, le_yes, passes_all, Rest, standing, state_at}
 use Rattle.progress_laws.proofs.ReplicaLists.{RunFrom, goes_to_end, none_yet}
 use Rattle.progress_laws.proofs.VoteSteps.{orderer}
+use Rattle.agreement_laws.proofs.Digests.{true_same}
 
 module _ (fits : Check) (gives : Gives) (s : Parameters) (views me : ℕ) (list : List Tx) (bs : List Block) (v : ℕ) (some : 1 ≤ v) (inside : v ≤ views) (leads : leader_of s v ≡ me) where
   abbrev before : Rest → Known
@@ -59,7 +59,7 @@ module _ (fits : Check) (gives : Gives) (s : Parameters) (views me : ℕ) (list 
             (
               not_from_true _ is.seal_fits,
               (
-                not_from_true _ (true_eq sealed.order.parent rest.ask_cert.block is.over),
+                not_from_true _ (true_same sealed.order.parent rest.ask_cert.block is.over),
                 tt,
               ),
             ),

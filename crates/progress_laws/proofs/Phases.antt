@@ -29,7 +29,7 @@ use Rattle.run_verdict.specs.Parts.{Part}
 use Rattle.run_verdict.specs.Sealed.{was_sealed}
 use Rattle.progress_laws.proofs.Worlds.{AreClear, AreWithin, envelope, Passed, pass_all, following, world_after, event_is, Grew, grew_run}
 use Rattle.progress_laws.proofs.Steps.{NoneLeft, run_done, run_delivers}
-use Rattle.lawful_runs.proofs.Places.{found_at, set_cases, length_set, get_set}
+use Rattle.round_rules.proofs.Places.{found_at, set_cases, length_set, get_set}
 use Rattle.progress_laws.proofs.Items.{get_mid, each_more}
 use Rattle.std.specs.List.{AllByRecursion as Each}
 

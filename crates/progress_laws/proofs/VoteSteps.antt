@@ -17,7 +17,6 @@ use Rattle.wire_view.specs.Views.{Voted}
 use Rattle.node_core.specs.declared.state.votes.Formed.{Formed}
 use Rattle.node_core.specs.declared.event.Reason.TheVariants.{Done, OldView}
 use Rattle.chain_store.specs.Chains.{chain_state_of}
-use Rattle.journal_rules.proofs.Stores.{true_eq}
 use Rattle.node_core.specs.State.{Known, Ballot}
 use Rattle.node_core.specs.Reported.{Gives, quiet, reported, to_each}
 use Rattle.node_core.specs.Rows.{Check}
@@ -26,6 +25,7 @@ use Rattle.node_core.specs.Vote.{vote_is_sealed, vote_rows, vote_reason, voted_r
 use Rattle.progress_laws.proofs.Chains.{IsChain, digest_at, view_is, is_stored_at}
 use Rattle.progress_laws.proofs.StateSummary.{eq_yes, eq_no, lt_yes, lt_no, le_yes, le_no, passes_all, Rest, standing, state_at, saw, sees}
 use Rattle.progress_laws.proofs.ReplicaLists.{RunFrom, goes_to_end, none_yet}
+use Rattle.agreement_laws.proofs.Digests.{true_same}
 
 -- the replicas of votes and of orders
 abbrev pub voter : CertVote → ℕ
@@ -63,16 +63,16 @@ module _ (fits : Check) (gives : Gives) (s : Parameters) (views me : ℕ) (list 
 
   ballot_is : (rest : Rest) (votes : List CertVote) (orders : List SealedOrder) → AreKept rest.boxes votes orders → ballot_of (before rest) (length bs) last ≡ ballot votes orders
   ballot_is rest votes orders (inl k) = rw (k.0, k.1, k.2)
-  ballot_is rest votes orders (inr k) = rw (k, eq_yes (length bs) (length bs) refl, true_eq last last refl)
+  ballot_is rest votes orders (inr k) = rw (k, eq_yes (length bs) (length bs) refl, true_same last last refl)
 
   others_are : (rest : Rest) (votes : List CertVote) (orders : List SealedOrder) → AreKept rest.boxes votes orders → others (length bs) last rest.boxes ≡ []
   others_are rest votes orders (inl k) = rw k.0
-  others_are rest votes orders (inr k) = rw (k, eq_yes (length bs) (length bs) refl, true_eq last last refl)
+  others_are rest votes orders (inr k) = rw (k, eq_yes (length bs) (length bs) refl, true_same last last refl)
 
   not_voted : (rest : Rest) (votes : List CertVote) (orders : List SealedOrder) (replica : ℕ) → AreKept rest.boxes votes orders → RunFrom voter 0 votes → length votes ≤ replica
       → has_voted rest.boxes (length bs) last replica ≡ false
   not_voted rest votes orders replica (inl k) run few = rw k.0
-  not_voted rest votes orders replica (inr k) run few = rw (k, none_yet voter 0 replica votes run (omega (arith, few)), eq_yes (length bs) (length bs) refl, true_eq last last refl)
+  not_voted rest votes orders replica (inr k) run few = rw (k, none_yet voter 0 replica votes run (omega (arith, few)), eq_yes (length bs) (length bs) refl, true_same last last refl)
 
   module _ (replica : ℕ) (v : Voted) (sealed : SealedOrder) (is : IsVote replica v sealed) (some : 1 ≤ length bs) (inside : length bs < views) (leads : leader_of s (length bs + 1) ≡ me) where
     -- ---- late
@@ -108,7 +108,7 @@ module _ (fits : Check) (gives : Gives) (s : Parameters) (views me : ℕ) (list 
                   or_from _ _ (rw (is.block, view_is bs chain (length bs) (omega arith)) (not_from_true _ (eq_yes (length bs) v.vote.view (sym is.view))))
                       (not_from_true _ (rw is.order (and_from _ _ (lt_yes v.vote.view views (omega (arith, is.view, inside)))
                       (and_from _ _ (eq_yes sealed.order.replica replica is.order_own)
-                      (and_from _ _ (eq_yes sealed.order.view (v.vote.view + 1) (omega (arith, is.order_view, is.view))) (true_eq sealed.order.parent v.vote.block (is.order_parent ∙ sym is.block))))))),
+                      (and_from _ _ (eq_yes sealed.order.view (v.vote.view + 1) (omega (arith, is.order_view, is.view))) (true_same sealed.order.parent v.vote.block (is.order_parent ∙ sym is.block))))))),
                   tt,
                 ),
               ),

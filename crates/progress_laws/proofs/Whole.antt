@@ -31,7 +31,7 @@ use Rattle.block_store.specs.Chains.{chain_of, following}
 use Rattle.chain_store.specs.Chains.{chain_state_of}
 use Rattle.run_record.specs.Done.{is_finalised}
 use Rattle.progress_laws.proofs.Chains.{IsChain, digest_at, stored_at, parent_is, no_parent}
-use Rattle.lawful_runs.proofs.Places.{found_at}
+use Rattle.round_rules.proofs.Places.{found_at}
 
 -- the laws of lower crates that this rests on
 pub record Laws : Type 0 where

@@ -21,9 +21,8 @@ use Rattle.replica_seat.specs.Acting.{Way, way, sent, sent_all, after_event}
 use Rattle.replay_run.specs.Acting.{event_for, event_at}
 use Rattle.replay_run.specs.Step.{taken_at, arrived_at, reported_arrived, taken_for, given_at, give_arrivals, everyone, has_all_due, ticked_over, floor_of, tick_all, next_for, advanced, step, ended, going_on}
 use Rattle.replay_run.specs.Play.{run_for}
-use Rattle.lawful_runs.proofs.Places.{found_at, set_cases, length_set, get_set}
+use Rattle.round_rules.proofs.Places.{found_at, get_other, get_set, length_set, set_cases}
 use Rattle.std.proofs.lemmas.Bool.{cases_eq}
-use Rattle.progress_laws.proofs.Items.{get_other}
 
 -- ---- links without faults
 

@@ -1,7 +1,5 @@
--- The bytes that name the keys: how many they are, and byte strings one after another.
-use Rattle.std.proofs.Common.{◌≡◌, ℕ, zero, suc, ◌+◌, ◌<◌, get_or, List, [], ◌∷◌, ◌++◌, length, take, refl, sym, ap, ◌∙◌, append_assoc, arith}
-use Rattle.std.specs.List.{concat}
-use Rattle.std.proofs.lemmas.List.{append-nil}
+-- The bytes that name the keys: how many they are.
+use Rattle.std.proofs.Common.{◌≡◌, ℕ, List, length, refl}
 use Rattle.sha2.specs.Sha256.{sha256, digest_bytes}
 use Rattle.seal_kit.specs.declared.height.Height.{Height}
 use Rattle.replica_box.specs.Opening.{owner_keys}
@@ -9,12 +7,3 @@ use Rattle.replica_box.specs.Opening.{owner_keys}
 pub length_keys : (height : Height) (publics : List (List ℕ)) → length (owner_keys height publics) ≡ 32
 unfolding owner_keys sha256 digest_bytes
 length_keys height publics = refl
-
--- one more of the strings
-concat_more : (xs : List (List ℕ)) (i : ℕ) → i < length xs → concat (take (suc i) xs) ≡ concat (take i xs) ++ get_or xs i []
-concat_more [] i less = absurd (omega (arith, less))
-concat_more (x ∷ xs) zero less = append-nil x
-concat_more (x ∷ xs) (suc i) less = ap (λ (t : List ℕ). x ++ t) (concat_more xs i (omega (arith, less))) ∙ sym (append_assoc x (concat (take i xs)) (get_or xs i []))
-
-pub concat_next : (xs : List (List ℕ)) (i : ℕ) → i < length xs → concat (take (i + 1) xs) ≡ concat (take i xs) ++ get_or xs i []
-concat_next xs i less = (let next : i + 1 ≡ suc i = omega arith in ap (λ (n : ℕ). concat (take n xs)) next ∙ concat_more xs i less)

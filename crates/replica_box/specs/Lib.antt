@@ -1,4 +1,5 @@
 pub mod Acting
+pub mod CheckerKeys
 pub mod FaultWords
 pub mod Hosting
 pub mod Opening
@@ -6,3 +7,4 @@ pub mod Owners
 pub mod SealCache
 pub mod Seats
 pub mod Shown
+pub mod Verified

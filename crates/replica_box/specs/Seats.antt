@@ -4,8 +4,7 @@ use Rattle.seq_base.specs.declared.tx.Tx.{Tx}
 use Rattle.seq_base.specs.declared.message.Outgoing.{Outgoing}
 use Rattle.chain_state.specs.Standings.{finals, is_used}
 use Rattle.intake.specs.Desk.{Desk}
-use Rattle.hss_seal.specs.Any.{any_gives, any_meaning}
-use Rattle.hss_seal.specs.declared.any.AnyChecker.{AnyChecker}
+use Rattle.hss_seal.specs.Any.{any_gives}
 use Rattle.hss_seal.specs.declared.any.AnySealer.{AnySealer}
 use Rattle.node_core.specs.declared.event.Event.{Event}
 use Rattle.node_core.specs.declared.event.Reason.{Reason}
@@ -16,11 +15,13 @@ use Rattle.node_core.specs.State.{Known, NodeValue}
 use Rattle.node_core.specs.Reported.{Gives, Outcome}
 use Rattle.node_core.specs.Turn.{turn_of}
 use Rattle.durable_node.specs.Log.{CanBeKept}
+use Rattle.replica_box.specs.CheckerKeys.{CheckerKeys, keys_fit}
 use Rattle.replica_box.specs.Hosting.{Continues, Prepared, digest_past}
 
 pub record Seat : Type 0 where
   pub node : NodeValue AnySealer
-  pub checker : AnyChecker
+  -- the keys by which it checks seals
+  pub checker : CheckerKeys
   -- the header of its log
   pub header : List ℕ
   -- the events that are prepared, the next one first, and the running digest of the log after the last of them
@@ -34,7 +35,7 @@ pub record Seat : Type 0 where
 
 -- which seals the replica accepts
 abbrev pub fits_of : Seat → Check
-fits_of seat = any_meaning seat.checker
+fits_of seat = keys_fit seat.checker
 
 -- the seals that its sealer gives
 abbrev pub gives_of : Seat → Gives

@@ -24,6 +24,10 @@ is_found (Err fault) = false
 abbrev pub shows_block : List ℕ → Bool
 shows_block bytes = is_found (read_of bytes)
 
+-- the replicas of its local orders
+abbrev pub order_replicas : Block → List ℕ
+order_replicas block = map (λ order. order.order.replica) block.orders
+
 -- the fresh lists of its local orders
 abbrev pub fresh_lists : Block → List (List Tx)
 fresh_lists block = map (λ order. order.order.fresh) block.orders

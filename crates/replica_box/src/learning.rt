@@ -1,10 +1,9 @@
 //! The walk over the seals of a message, before a turn checks them. What learns from them is a [`Learner`]: at `open` the
-//! checker of the keys, which learns the heads of the whole log, and at `prepare` the cache, which checks each seal and
-//! remembers it. The statement of each seal is the one over which the turn checks it. Learning changes no answer of a
+//! checker of the keys, which learns the heads of the whole log; at `prepare` it is the cache, which checks each seal and
+//! remembers it; and on another thread a verifier, which checks its share of them. The statement of each seal is the one over which the turn checks it. Learning changes no answer of a
 //! checker. It ends at the first seal of a message that is not learned, so a message with a bad seal costs one check more.
 ghost use Rattle.std.specs.Prelude.{◌≡◌};
 
-use hss_seal::AnyChecker;
 use node_core::Event;
 use wire_view::{
     BlockView, CallView, CertView, MessageView, OrderView, ProposeView, VoteView, read,
@@ -17,13 +16,6 @@ pub(crate) trait Learner {
     /// changes.
     fn learn(&mut self, replica: u32, statement: &[u8], seal: &[u8]) -> bool
         ensures { self.new ≡ self.old };
-}
-
-/// Learns heads alone: the log may have many more seals than a cache holds.
-impl Learner for AnyChecker {
-    fn learn(&mut self, replica: u32, _statement: &[u8], seal: &[u8]) -> bool {
-        AnyChecker::learn(self, replica, seal)
-    }
 }
 
 /// Learns from the messages that events deliver, in their order.
@@ -45,8 +37,8 @@ pub(crate) fn learn_event<L: Learner>(learner: &mut L, view: u32, event: &Event)
     }
 }
 
-/// Bytes that are no message have nothing to learn from.
-fn learn_bytes<L: Learner>(learner: &mut L, view: u32, from: u32, bytes: &[u8])
+/// Learns from the bytes that a replica sent. Bytes that are no message have nothing to learn from.
+pub(crate) fn learn_bytes<L: Learner>(learner: &mut L, view: u32, from: u32, bytes: &[u8])
     ensures { learner.new ≡ learner.old }
 {
     match read(bytes) {

@@ -13,7 +13,8 @@
 //! - If the host follows these steps, its log stays the log of an incarnation (`Lifetime`; see `HasLogged` and `Continues`
 //!   in `specs/Hosting`). So the laws of `host_laws` apply.
 //! - The replica accepts exactly the seals that fit under the public keys, whatever it remembers of seals that it checked
-//!   before (`seal_cache`).
+//!   before (`seal_cache`). So may a [`Verifier`] check seals ahead, on another thread: what it accepted is remembered only by
+//!   a replica with the same public keys, and its own ring of each replica (`Replica::take_verified`).
 //!
 //! The crate depends on `durable_node`, which defines the format of the log, on `hss_seal`: a key has one tree or two
 //! levels, and on `wire_write` for the statements of votes in certificates. Tests are in `tests_box`.
@@ -22,6 +23,7 @@
 mod acting;
 mod certified;
 mod fault;
+mod keyed_checker;
 mod laws;
 mod learning;
 mod opening;
@@ -34,8 +36,10 @@ mod replica;
 mod seal_cache;
 mod shown;
 mod texts;
+mod verifier;
 
 pub use fault::{ActFault, OpenFault, PrepareFault};
 pub use laws::{hosts_keep_logs, logs_fix_what_opens_them, records_continue_logs};
 pub use opening::Role;
 pub use replica::Replica;
+pub use verifier::Verifier;

@@ -1,6 +1,6 @@
 //! Opens a replica from its secret and the bytes of its log.
 ghost use Rattle.std.specs.Prelude.{Err, ◌≡◌, ◌≢◌, ◌≤◌, ◌<◌, ◌*◌, ◌+◌, ◌↔◌, ℕ, List, Some, false, IsTrue, IfOk, OnOk, IfErr, length, slice_get};
-ghost use Rattle.hss_seal.specs.Any.{any_capacity, any_gives, any_made, any_meaning, any_publics_fit, any_replica, any_sealer};
+ghost use Rattle.hss_seal.specs.Any.{any_capacity, any_gives, any_made, any_publics_fit, any_replica, any_sealer};
 ghost use Rattle.node_core.specs.Runs.{opening_state, state_after};
 ghost use Rattle.durable_node.specs.Check.{header_digest};
 ghost use Rattle.durable_node.specs.Header.{AreNarrow, IsOwn, height_number, records_in};
@@ -9,6 +9,7 @@ ghost use Rattle.replica_box.specs.Opening.{CanOpen, HasOpened, IsDigestOf, IsCa
 ghost use Rattle.seal_kit.specs.Seals.{capacity_of};
 
 use crate::OpenFault;
+use crate::keyed_checker::KeyedChecker;
 use crate::learning::learn_events;
 use crate::owner::owner_keys;
 use crate::seal_cache::CachingChecker;
@@ -16,7 +17,7 @@ use durable_node::{
     HEADER_BYTES, KeptFault, LogFault, Logged, check_owner, header_digest, header_of, read_log,
     records_in, replayed,
 };
-use hss_seal::{AnyChecker, AnySealer};
+use hss_seal::AnySealer;
 use node_core::{Event, Node};
 use seal_kit::Height;
 use seq_base::{NoMemory, Setting};
@@ -71,7 +72,7 @@ pub(crate) fn open_node(
     ensures header { IfOk result (λ o. o.header.items ≡ own_header role.now.setting role.now.views role.now.me role.now.height publics.now) }
     ensures narrow { OnOk result (AreNarrow role.now.setting role.now.views role.now.me (height_number role.now.height)) }
     // By which seals it goes on: those that it accepts, and those that it gives.
-    ensures fits { IfOk result (λ o. any_meaning o.checker ≡ any_publics_fit role.now.height publics.now) }
+    ensures fits { IfOk result (λ o. o.checker ≡ record { height = role.now.height; publics = publics.now }) }
     ensures gives { IfOk result (λ o. any_gives o.node.sealer ≡ any_gives (any_sealer id.now seed.now role.now.height role.now.me)) }
     // The used part lies within the log, and the node is not halted.
     ensures within { IfOk result (λ o. o.used ≤ length log.now) }
@@ -103,7 +104,7 @@ fn checker_over(
     publics: &[[u8; 60]],
     events: &[Event],
 ) -> Result<CachingChecker, NoMemory>
-    ensures { IfOk result (λ checker. any_meaning checker ≡ any_publics_fit height publics.now) }
+    ensures { IfOk result (λ checker. checker ≡ record { height = height; publics = publics.now }) }
 {
     let checker = learned_checker(alloc, height, publics, events)?;
     CachingChecker::new(alloc, checker, publics.len())
@@ -115,10 +116,10 @@ fn learned_checker(
     height: Height,
     publics: &[[u8; 60]],
     events: &[Event],
-) -> Result<AnyChecker, NoMemory>
-    ensures { IfOk result (λ checker. any_meaning checker ≡ any_publics_fit height publics.now) }
+) -> Result<KeyedChecker, NoMemory>
+    ensures { IfOk result (λ checker. checker ≡ record { height = height; publics = publics.now }) }
 {
-    let mut checker = AnyChecker::from_publics(alloc, height, publics)?;
+    let mut checker = KeyedChecker::new(alloc, height, publics)?;
     learn_events(&mut checker, events);
     Ok(checker)
 }

@@ -8,7 +8,7 @@ ghost use Rattle.replica_box.specs.Seats.{HasPrepared, IsIdle, IsJudgedWithMemor
 
 use crate::learning::learn_event;
 use crate::prepared::Prepared;
-use crate::{PrepareFault, Replica};
+use crate::{PrepareFault, Replica, Verifier};
 use durable_node::is_short;
 use node_core::{Event, NodeFault};
 
@@ -39,6 +39,16 @@ impl Replica {
         ensures { self.new ≡ self.old }
     {
         learn_event(&mut self.checker, self.node.view(), event);
+    }
+
+    /// Remembers the seals that a verifier keeps, if it has the public keys and the height of this replica, and returns whether
+    /// it has. The turns on their message do not check them again. A host calls this before it prepares the message.
+    pub fn take_verified(&mut self, verifier: &mut Verifier) -> bool
+        ensures keys { IsTrue result ↔ (self.old.checker ≡ verifier.old) }
+        ensures same { self.new ≡ self.old }
+        ensures verifier { verifier.new ≡ verifier.old }
+    {
+        self.checker.take_verified(verifier)
     }
 
     /// The event, with a record where its turn would change the replica.

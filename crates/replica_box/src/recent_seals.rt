@@ -87,11 +87,18 @@ impl RecentSeals {
     ) -> Result<(), NoMemory>
         ensures { (fits : Check) → fits replica statement.now seal.now ≡ true → AreGood fits self.old → AreGood fits self.new }
     {
-        let known = AcceptedSeal::new(self.alloc, replica, statement, seal)?;
-        if let Some(place) = self.next_place(replica) {
-            self.put(place, known);
-        }
+        let accepted = AcceptedSeal::new(self.alloc, replica, statement, seal)?;
+        self.add(accepted);
         Ok(())
+    }
+
+    /// Remembers a seal in the ring of its own replica.
+    pub(crate) fn add(&mut self, accepted: AcceptedSeal)
+        ensures { (fits : Check) → IsGood fits (Some accepted) → AreGood fits self.old → AreGood fits self.new }
+    {
+        if let Some(place) = self.next_place(accepted.replica) {
+            self.put(place, accepted);
+        }
     }
 
     /// The place of a replica's next seal, if there is room for those of this replica.
@@ -107,11 +114,11 @@ impl RecentSeals {
         Some(at * SEALS + usize::from(count) % SEALS)
     }
 
-    fn put(&mut self, place: usize, known: AcceptedSeal)
-        ensures { (fits : Check) → IsGood fits (Some known) → AreGood fits self.old → AreGood fits self.new }
+    fn put(&mut self, place: usize, accepted: AcceptedSeal)
+        ensures { (fits : Check) → IsGood fits (Some accepted) → AreGood fits self.old → AreGood fits self.new }
     {
         if place < self.seals.len() {
-            self.seals[place] = Some(known);
+            self.seals[place] = Some(accepted);
         }
     }
 }
@@ -128,7 +135,7 @@ fn no_seals(alloc: Global, count: usize) -> Result<Vec<Option<AcceptedSeal>>, No
 }
 
 /// A seal that was accepted, whole, with its replica and its statement.
-struct AcceptedSeal {
+pub(crate) struct AcceptedSeal {
     replica: u32,
     statement: Vec<u8>,
     seal: Vec<u8>,
@@ -153,7 +160,7 @@ impl Model for AcceptedSeal {
 }
 
 impl AcceptedSeal {
-    fn new(
+    pub(crate) fn new(
         alloc: Global,
         replica: u32,
         statement: &[u8],

@@ -1,6 +1,6 @@
 //! The lists that a block shows: what its replicas received and no block proposed before.
 ghost use Rattle.std.specs.Prelude.{◌≡◌, false, map, IfOk, IfSome, is_some, None, Ok};
-ghost use Rattle.replica_box.specs.Shown.{fresh_lists, shown_lists, shows_block};
+ghost use Rattle.replica_box.specs.Shown.{fresh_lists, order_replicas, shown_lists, shows_block};
 
 use intake::ShownList;
 use seq_base::{NoMemory, Tx};
@@ -34,7 +34,9 @@ pub(crate) fn shown_by(alloc: Global, bytes: &[u8]) -> Result<Option<Shown>, NoM
 }
 
 fn shown_of(alloc: Global, block: &BlockView<'_>) -> Result<Shown, NoMemory>
-    ensures { IfOk result (λ shown. map (λ list. list.txs.items) shown.lists.items ≡ fresh_lists block.now) }
+    ensures views { IfOk result (λ shown. (shown.view ≡ block.now.view) × (shown.parent ≡ block.now.cert.view)) }
+    ensures replicas { IfOk result (λ shown. map (λ list. list.replica) shown.lists.items ≡ order_replicas block.now) }
+    ensures lists { IfOk result (λ shown. map (λ list. list.txs.items) shown.lists.items ≡ fresh_lists block.now) }
 {
     Ok(Shown {
         view: block.view(),
@@ -44,7 +46,8 @@ fn shown_of(alloc: Global, block: &BlockView<'_>) -> Result<Shown, NoMemory>
 }
 
 fn fresh_lists(alloc: Global, block: &BlockView<'_>) -> Result<Vec<ShownList>, NoMemory>
-    ensures { IfOk result (λ lists. map (λ list. list.txs.items) lists.items ≡ fresh_lists block.now) }
+    ensures replicas { IfOk result (λ lists. map (λ list. list.replica) lists.items ≡ order_replicas block.now) }
+    ensures lists { IfOk result (λ lists. map (λ list. list.txs.items) lists.items ≡ fresh_lists block.now) }
 {
     let mut lists = Vec::new(alloc);
     for k in 0..block.len() {
@@ -56,7 +59,8 @@ fn fresh_lists(alloc: Global, block: &BlockView<'_>) -> Result<Vec<ShownList>, N
 }
 
 fn fresh_list(alloc: Global, order: &OrderView<'_>) -> Result<ShownList, NoMemory>
-    ensures { IfOk result (λ list. list.txs.items ≡ order.now.order.fresh) }
+    ensures replica { IfOk result (λ list. list.replica ≡ order.now.order.replica) }
+    ensures list { IfOk result (λ list. list.txs.items ≡ order.now.order.fresh) }
 {
     Ok(ShownList {
         replica: order.replica(),

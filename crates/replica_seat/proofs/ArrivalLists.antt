@@ -5,6 +5,7 @@ use Rattle.std.proofs.lemmas.Bool.{cases_Bool, false≢true, and_parts, ltb-true
 use Rattle.std.proofs.lemmas.List.Elements.{All-weaker}
 use Rattle.seq_base.specs.declared.tx.Tx.{Tx}
 use Rattle.seq_base.specs.Tx.{FitsTx, tx_eq, tx_eq_decides}
+use Rattle.seq_base.proofs.Points.{point}
 use Rattle.plan_text.specs.declared.plan.Client.{Client}
 use Rattle.plan_text.specs.declared.plan.Plan.{Plan}
 use Rattle.plan_text.specs.Apart.{KeepsApart}
@@ -16,7 +17,7 @@ use Rattle.replica_seat.specs.Feed.{rounds_of, timed_for, txs_of}
 use Rattle.replica_seat.specs.Arrivals.{IsArrivalList}
 use Rattle.replica_seat.proofs.ArrivalSums.{feed_total, shares}
 use Rattle.replica_seat.proofs.Shares.{given, misfit, fits_none, share_counts, share_fits, clients_once, no_client}
-use Rattle.replica_seat.proofs.Totals.{total, point, total_is_sum, total_is_length, total_none, all_fail, once_passes, distinct_from_counts}
+use Rattle.replica_seat.proofs.Totals.{total, total_is_sum, total_is_length, total_none, all_fail, once_passes, distinct_from_counts}
 
 -- a transaction that is no misfit fits
 none_fits : (t : Tx) → not (fits_tx t) ≡ false → FitsTx t

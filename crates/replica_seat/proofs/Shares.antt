@@ -5,10 +5,11 @@ use Rattle.std.proofs.lemmas.Bool.{cases_Bool, leb-true, lt-ltb, eqb-true}
 use Rattle.std.proofs.lemmas.List.Elements.{All-nil, All-cons, All-head, All-tail}
 use Rattle.seq_base.specs.declared.tx.Tx.{Tx}
 use Rattle.seq_base.specs.Tx.{tx_eq, FitsTx}
+use Rattle.seq_base.proofs.Points.{point}
 use Rattle.plan_text.specs.TxTexts.{fits_tx}
 use Rattle.plan_text.specs.declared.plan.Client.{Client}
 use Rattle.plan_text.specs.Clients.{is_client}
-use Rattle.replica_seat.proofs.Totals.{total, point, passing, total-le, none_passes, once_passes}
+use Rattle.replica_seat.proofs.Totals.{total, passing, total-le, none_passes, once_passes}
 use Rattle.replica_seat.proofs.ArrivalSums.{shares}
 
 -- 1 for each transaction that is not within the widths of its fields

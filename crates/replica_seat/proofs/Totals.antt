@@ -6,16 +6,12 @@ use Rattle.std.proofs.lemmas.List.{take-append-drop}
 use Rattle.std.proofs.lemmas.List.Elements.{All-nil, All-cons, All-head, All-tail, All-weaker}
 use Rattle.std.proofs.lemmas.List.Kept.{AllPairs-cons}
 use Rattle.std.proofs.lemmas.List.Recursion.{is_sum_by}
+use Rattle.seq_base.proofs.Points.{point}
 use Rattle.replica_seat.specs.Feed.{around, place_among}
 
 abbrev pub total : {X : Type 0} → (X → ℕ) → List X → ℕ
 total f [] = 0
 total f (x ∷ xs) = f x + total f xs
-
--- 1 where a test holds
-abbrev pub point : Bool → ℕ
-point true = 1
-point false = 0
 
 -- how many items pass a test
 abbrev pub passing : {X : Type 0} → (X → Bool) → List X → ℕ

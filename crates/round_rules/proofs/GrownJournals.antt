@@ -14,7 +14,7 @@ or_longer : (b c d : Bool) → (c ≡ true → d ≡ true) → (b || c) ≡ true
 or_longer true c d f e = refl
 or_longer false c d f e = f e
 
-holds_longer : (t : Tx) (xs more : List Tx) → holds t xs ≡ true → holds t (xs ++ more) ≡ true
+pub holds_longer : (t : Tx) (xs more : List Tx) → holds t xs ≡ true → holds t (xs ++ more) ≡ true
 holds_longer t [] more h = absurd (cc)
 holds_longer t (x ∷ xs) more h = or_longer (tx_eq x t) (holds t xs) (holds t (xs ++ more)) (holds_longer t xs more) h
 

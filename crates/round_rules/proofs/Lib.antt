@@ -2,4 +2,5 @@ pub mod GrownJournals
 pub mod JournalCuts
 pub mod Lists
 pub mod NextRound
+pub mod Places
 pub mod ReplicaSums

@@ -1,3 +1,4 @@
+pub mod AuditedStarts
 pub mod ClosingBlocks
 pub mod CutLists
 pub mod DistinctLists

@@ -9,5 +9,6 @@ pub mod Sessions
 pub mod Service
 pub mod Claims
 pub mod OwnHistories
+pub mod Audited
 pub mod Closing
 pub mod Examples

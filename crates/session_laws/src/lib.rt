@@ -6,18 +6,21 @@
 //! b, a is in the history no later than b (`specs/Claims`, `histories`). Each session may have its own seals, faulty
 //! replicas and setting, and a replica may start a session from a history that it took from another (`specs/Sessions`).
 //! Where none does, and the same replicas are faulty in all sessions, the rules of `session_rules` are enough (`own`).
+//! Where an auditor has checked one session after another, what it checked is enough (`audited`).
 //! `examples` shows that these can be met and that none can be left out, and `session` what holds of one session up to
 //! its marker. `closing` says where a session may be closed whose views ran out before its marker was final. Each law is
 //! the contract of a function that only names what it rests on. The crate stands on `headline_laws` and `session_rules`,
 //! and must not know how a record came about.
 #![tactic(auto)]
 
+mod audited;
 mod closing;
 mod examples;
 mod histories;
 mod own;
 mod session;
 
+pub use audited::{audited_services_serve, sets_know_histories};
 pub use closing::closing_blocks_extend_commits;
 pub use examples::{
     a_replica_may_carry_over, fairness_needs_carrying, histories_need_ended_sessions,

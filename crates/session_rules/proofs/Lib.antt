@@ -1,3 +1,4 @@
 pub mod Checked
 pub mod CutBatches
 pub mod Ended
+pub mod Positions

@@ -2,3 +2,4 @@ pub mod Cuts
 pub mod Histories
 pub mod Rules
 pub mod Arrivals
+pub mod Final

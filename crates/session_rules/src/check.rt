@@ -56,7 +56,7 @@ fn are_others(set: &HashSet<Tx>, txs: &[Tx]) -> bool
     txs.iter().all(|tx| !set.contains(tx))
 }
 
-fn begins_with(txs: &[Tx], prefix: &[Tx]) -> bool
+pub(crate) fn begins_with(txs: &[Tx], prefix: &[Tx]) -> bool
     ensures { (result ≡ true) ↔ (take (length prefix.now) txs.now ≡ prefix.now) }
 {
     txs.starts_with(prefix)

@@ -1,5 +1,6 @@
 //! What a host computes when a session ends.
-ghost use Rattle.std.specs.Prelude.{◌≡◌, ◌||◌, ◌≤◌, IfOk, OnOk, filter, length, not, take};
+ghost use Rattle.std.specs.Prelude.{◌≡◌, ◌||◌, ◌≤◌, IfOk, IsOk, OnOk, filter, length, not, take};
+ghost use Rattle.std.specs.HashSet.{spare};
 ghost use Rattle.std.specs.List.{list_any};
 ghost use Rattle.seq_base.specs.declared.tx.Tx.{Tx};
 ghost use Rattle.seq_base.specs.Lists.{holds};
@@ -57,7 +58,7 @@ pub fn carried_over(alloc: Global, batches: &[TxList], arrived: &[Tx]) -> Result
 }
 
 /// The transactions that are not in the set.
-fn others(alloc: Global, held: &HashSet<Tx>, txs: &[Tx]) -> Result<Vec<Tx>, NoMemory>
+pub(crate) fn others(alloc: Global, held: &HashSet<Tx>, txs: &[Tx]) -> Result<Vec<Tx>, NoMemory>
     ensures { IfOk result (λ left. left.items ≡ filter (λ tx. not (list_any (tx_eq tx) held.now.keys)) txs.now) }
 {
     let mut left = Vec::new(alloc);
@@ -79,8 +80,10 @@ pub(crate) fn insert_batches(set: &mut HashSet<Tx>, batches: &[TxList]) -> Resul
     Ok(())
 }
 
-fn insert_all(set: &mut HashSet<Tx>, txs: &[Tx]) -> Result<(), NoMemory>
-    ensures { OnOk result ((tx : Tx) → list_any (tx_eq tx) set.new.keys ≡ (list_any (tx_eq tx) set.old.keys || holds tx txs.now)) }
+/// Inserts the transactions. Where the set has room for them, the call does not fail.
+pub(crate) fn insert_all(set: &mut HashSet<Tx>, txs: &[Tx]) -> Result<(), NoMemory>
+    ensures inserted { OnOk result ((tx : Tx) → list_any (tx_eq tx) set.new.keys ≡ (list_any (tx_eq tx) set.old.keys || holds tx txs.now)) }
+    ensures room { length txs.now ≤ spare set.old → IsOk result }
 {
     for tx in txs {
         set.insert(*tx)?;

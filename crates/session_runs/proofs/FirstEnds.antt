@@ -12,7 +12,7 @@ use Rattle.fault_script.specs.Sealing.{Signer}
 use Rattle.node_core.specs.Rows.{Check}
 use Rattle.run_record.specs.Done.{is_finalised}
 use Rattle.run_record.specs.declared.record.RunRecord.{RunRecord}
-use Rattle.lawful_runs.proofs.Places.{found_at}
+use Rattle.round_rules.proofs.Places.{found_at}
 use Rattle.lawful_runs.proofs.Worlds.{Good, ends_good}
 use Rattle.lawful_runs.specs.Honest.{IsRun, capacity_at}
 use Rattle.lawful_runs.specs.Lawful.{AreMadeFor}

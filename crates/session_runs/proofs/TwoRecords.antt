@@ -1,9 +1,9 @@
--- The two records are those of a service in which each replica starts from its own history.
-use Rattle.std.proofs.Common.{◌≡◌, ◌≢◌, ℕ, zero, suc, ◌<◌, List, [], get_or, map, Bool, true, false, not, refl, sym, subst, ◌∙◌, arith}
-use Rattle.std.specs.Prelude.{All}
+-- The two records are those of a service in which each replica starts from its own history, and pass an auditor's checks.
+use Rattle.std.proofs.Common.{◌≡◌, ◌≢◌, ℕ, zero, suc, ◌<◌, List, [], get_or, map, cond, length, Bool, true, false, not, None, refl, sym, ap, subst, ◌∙◌, arith}
+use Rattle.std.specs.Prelude.{All, position}
 use Rattle.std.specs.List.{range_with_len}
 use Rattle.std.proofs.lemmas.Bool.{not-true}
-use Rattle.std.proofs.lemmas.List.{append-nil}
+use Rattle.std.proofs.lemmas.List.{append-nil, take_all}
 use Rattle.std.proofs.lemmas.List.Elements.{All-filter}
 use Rattle.std.proofs.lemmas.List.Kept.{AllPairs-filter}
 use Rattle.seq_base.specs.declared.tx.Tx.{Tx}
@@ -20,11 +20,17 @@ use Rattle.run_verdict.specs.Shown.{IsHonest}
 use Rattle.headline_laws.specs.Examples.{waiting}
 use Rattle.headline_laws.specs.Premises.{IsSound}
 use Rattle.journal_rules.specs.Records.{arrivals_in, batches_in}
-use Rattle.session_rules.specs.Cuts.{cut_at, marker}
+use Rattle.session_rules.specs.Cuts.{carried_over, cut_at, marker}
+use Rattle.session_rules.specs.Final.{ComesFirst, left_of}
 use Rattle.session_rules.specs.Histories.{HasEndedBefore}
 use Rattle.session_rules.specs.Rules.{ArrivesInTurn, ArrivesNew, CarriesFirst}
+use Rattle.session_rules.proofs.Positions.{none_if}
+use Rattle.session_laws.specs.Audited.{IsAuditedService, IsEnded, MayHaveArrived, arrived_before}
+use Rattle.session_laws.specs.Claims.{CutsAgree}
 use Rattle.session_laws.specs.OwnHistories.{IsOwnService, lists_of, receipts_of}
-use Rattle.session_runs.specs.TwoSessions.{left_over, two_sessions}
+use Rattle.session_laws.specs.Sessions.{History}
+use Rattle.session_laws.proofs.AuditedStarts.{is_honest_if}
+use Rattle.session_runs.specs.TwoSessions.{before_each, left_over, two_sessions}
 use Rattle.session_runs.proofs.MarkerPlan.{valid}
 
 -- a record in which nothing was delivered is sound
@@ -107,3 +113,41 @@ module _ (waits : WaitingIsSound) (fits : Check) (run : RunRecord) (sound : IsSo
     faulty = same_faulty;
     carries = λ r honest. record { in_turn = in_turn r honest; new = new r honest; carries = carries r honest };
   }
+
+  -- ---- an auditor's checks
+
+  first_honest : IsHonest run 0
+  first_honest = honest_if 0 (omega arith)
+
+  ended : (session : ℕ) → suc session < 2 → (q : ℕ) × IsEnded (two_sessions run) (before_each run) session q
+  ended zero less = (0, record { honest = first_honest; marked = marked 0 first_honest; is = refl })
+  ended (suc later) less = absurd (omega (arith, less))
+
+  module _ (agree : CutsAgree (marker 0) run) where
+    -- each replica carries over what is not in the cut of the first one
+    left_is : (r : ℕ) → r < 5 → left_over run r ≡ left_of (is_held 0) (arrivals_in run r)
+    left_is r below =
+        let own = honest_if r below in
+        ap (λ (cut : History). carried_over cut (arrivals_in run r)) (agree.same r 0 own first_honest (marked r own) (marked 0 first_honest))
+
+    none_held : (r : ℕ) → position (is_held 0) (left_of (is_held 0) (arrivals_in run r)) ≡ None
+    none_held r =
+        none_if (is_held 0) (left_of (is_held 0) (arrivals_in run r))
+        (λ t held. not-true (is_held 0 t) (passes-filter (λ x. not (is_held 0 x)) t (arrivals_in run r) held))
+
+    arrived : (session r : ℕ) → session < 2 → IsHonest (two_sessions run session) r → MayHaveArrived (two_sessions run) (before_each run) session r
+    arrived zero r less honest = record { new = none_if (is_finalised []) (arrivals_in run r) (λ t held. refl); first = refl }
+    arrived (suc zero) r less honest =
+        let was : List Tx = arrivals_in run r in
+        let left : List Tx = left_of (is_held 0) was in
+        let list : arrivals_in (two_sessions run 1) r ≡ left = second_arrivals r honest.below ∙ left_is r honest.below in
+        let here : arrived_before (two_sessions run) 1 r ≡ was = ap (λ (b : Bool). cond b was []) (is_honest_if run r (honest_if r honest.below)) in
+        record {
+          new = subst (λ (xs : List Tx). position (is_held 0) xs ≡ None) (sym list) (none_held r);
+          first = subst (λ (xs : List Tx). ComesFirst (left_of (is_held 0) xs) (arrivals_in (two_sessions run 1) r)) (sym here)
+              (subst (ComesFirst left) (sym list) (take_all (length left) left (omega arith)));
+        }
+    arrived (suc (suc later)) r less honest = absurd (omega (arith, less))
+
+    pub audited : IsAuditedService (λ session. fits) (two_sessions run) (before_each run) 2
+    audited = record { sound = sessions_are_sound; empty = refl; ended = ended; arrived = arrived }

@@ -14,6 +14,7 @@ use Rattle.headline_laws.specs.Examples.{waiting}
 use Rattle.journal_rules.specs.Records.{arrivals_in, batches_in}
 use Rattle.session_rules.specs.Cuts.{carried_over, cut_at, marker}
 use Rattle.session_rules.specs.Histories.{HasEndedBefore}
+use Rattle.session_laws.specs.Audited.{Histories, IsAuditedService}
 use Rattle.session_laws.specs.OwnHistories.{lists_of, own_starts}
 use Rattle.session_laws.specs.Service.{IsService}
 use Rattle.session_laws.specs.Sessions.{Sessions}
@@ -48,9 +49,15 @@ abbrev pub two_sessions : RunRecord → Sessions
 two_sessions run zero = run
 two_sessions run (suc later) = waiting five (map (left_over run) (range_with_len 0 5))
 
+-- what is final before each session, by the list of the first replica
+abbrev pub before_each : RunRecord → Histories
+before_each run zero = []
+before_each run (suc later) = cut_at (marker 0) (batches_in run 0)
+
 -- If what was delivered can be written, and no two blocks have the same digest, these are sessions of a service, in which
--- each replica starts from its own history, and each has ended the first.
+-- each replica starts from its own history, and each has ended the first. They also pass an auditor's checks.
 abbrev pub EndsFirst : Check → RunRecord → Type 0
 EndsFirst fits run = IsReadableRun run → (¬ IsCollided run)
     → IsService (λ session. fits) (two_sessions run) (own_starts (two_sessions run)) 2
     × ((r : ℕ) → IsHonest run r → HasEndedBefore (lists_of (two_sessions run) r) 1)
+    × IsAuditedService (λ session. fits) (two_sessions run) (before_each run) 2

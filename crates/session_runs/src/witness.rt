@@ -11,12 +11,12 @@ use headline_laws::a_sound_record_may_be_idle;
 use lawful_runs::plays_are_lawful;
 use progress_laws::clean_runs_are_done;
 use run_verdict::verdicts_show_what_is_so;
-use session_laws::own_histories_serve;
+use session_laws::{cuts_agree, own_histories_serve};
 
 /// The five replicas of a clean plan each receive the marker of the first session and another transaction. Assume that
 /// the seals of its sealers fit, that what was delivered can be written, and that no two blocks of the run have the same
 /// digest. Then the run is the first of two sessions of a service, each replica has ended it, and what it carries over
-/// has arrived in the second.
+/// has arrived in the second. So an auditor's checks pass.
 pub fn a_service_may_end_sessions()
     ensures plan { KeepsRules marker_plan × IsCleanPlan marker_plan }
     ensures run { (fits : Check) (gives : ℕ → Gives) (run : RunRecord) → SealsFit fits 5 gives → run ≡ run_with fits gives marker_plan
@@ -27,4 +27,5 @@ pub fn a_service_may_end_sessions()
     verdicts_show_what_is_so();
     a_sound_record_may_be_idle();
     own_histories_serve();
+    cuts_agree();
 }

@@ -1,5 +1,5 @@
 //! The tests of a replica whose host keeps the log: each public call and each refusal once, seals that it has
-//! checked before, and the audit of its record.
+//! checked before or ahead, and the audit of its record.
 #![tactic(auto)]
 
 #[cfg(test)]
@@ -20,3 +20,5 @@ mod seals;
 mod shared;
 #[cfg(test)]
 mod turns;
+#[cfg(test)]
+mod verifiers;

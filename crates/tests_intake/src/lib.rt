@@ -9,3 +9,5 @@ mod desks;
 mod intakes;
 #[cfg(test)]
 mod words;
+#[cfg(test)]
+mod written_out;

@@ -20,3 +20,5 @@ mod runs;
 mod stopped;
 #[cfg(test)]
 mod tampered;
+#[cfg(test)]
+mod unread;

@@ -1,4 +1,5 @@
 //! Cases as lines of text: a question, two inputs, and the answer, which an independent program computed.
+use crate::finals::{write_added, write_arrivals, write_left};
 use crate::lists::{read_arrivals, read_batches, read_sessions, read_txs, write_txs};
 use seq_base::{BatchList, TxList};
 use session_rules::{carried_over, carries_over, count_batches, has_ended, marker};
@@ -48,6 +49,9 @@ fn write_answer(
             write_carried(answer, alloc, &arrived, &read_batches(alloc, second)?)
         }
         "rules" => write_rules(answer, alloc, first, second),
+        "left" => write_left(answer, alloc, first, second),
+        "add" => write_added(answer, alloc, first, second),
+        "arrives" => write_arrivals(answer, alloc, first, second),
         _ => Ok(answer.push_str("no such question")?),
     }
 }

@@ -4,6 +4,8 @@
 #[cfg(test)]
 mod cases;
 #[cfg(test)]
+mod finals;
+#[cfg(test)]
 mod lists;
 #[cfg(test)]
 mod tables;

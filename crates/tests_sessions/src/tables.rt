@@ -60,6 +60,45 @@ rules|1 2 3 m0/3 2|1,m0/|no
 rules|1 2 m0/3|1,m0,2/3|no
 ";
 
+/// The same as `CARRIED`, asked of a set.
+const LEFT: &str = "\
+left|1 2 m0 3|1,m0| 2 3
+left|1 2 m0|| 1 2 m0
+left|3 1 2|1| 3 2
+left||1|
+";
+
+/// A batch is added whole, or refused at the first transaction that is final already.
+const ADDED: &str = "\
+add|1 2||added:
+add|3 m0|1,2|added:
+add|||added:
+add|3 2 1 4|1,2|final 1: 3 4
+add|m0|1,m0|final 0:
+";
+
+/// What may arrive in a session: also nothing, where nothing is carried over, and more than what is carried over.
+const MAY_ARRIVE: &str = "\
+arrives|0//1 2 m0||may
+arrives|0//||may
+arrives|1/1 2 m0 3/2 3 4 m1|1,m0|may
+arrives|1//4|1,m0|may
+arrives|1/1/|1,m0|may
+";
+
+/// What may not. Where several causes hold, the first one counts.
+const REFUSED: &str = "\
+arrives|1//3 1|1,m0|final 1
+arrives|1//m0|1,m0|final 0
+arrives|1//4 m2|1,m0|other 1
+arrives|0//m1||other 0
+arrives|1/1 2/|1,m0|not carried
+arrives|1/1 2 3/3 2|1,m0|not carried
+arrives|1/2/4 2|1,m0|not carried
+arrives|1/2/4 m2 1|1,m0|final 2
+arrives|1/2/4 m2|1,m0|other 1
+";
+
 #[test]
 fn a_marker_names_its_session(rt: HostRuntime) -> Result<(), Fail> {
     check_cases(rt.alloc(), MARKERS)
@@ -93,4 +132,24 @@ fn nothing_final_may_arrive_again(rt: HostRuntime) -> Result<(), Fail> {
 #[test]
 fn what_is_carried_over_comes_first(rt: HostRuntime) -> Result<(), Fail> {
     check_cases(rt.alloc(), LEFT_OUT)
+}
+
+#[test]
+fn a_set_keeps_what_is_not_final(rt: HostRuntime) -> Result<(), Fail> {
+    check_cases(rt.alloc(), LEFT)
+}
+
+#[test]
+fn a_batch_is_added_whole_or_not(rt: HostRuntime) -> Result<(), Fail> {
+    check_cases(rt.alloc(), ADDED)
+}
+
+#[test]
+fn what_may_arrive_is_let_arrive(rt: HostRuntime) -> Result<(), Fail> {
+    check_cases(rt.alloc(), MAY_ARRIVE)
+}
+
+#[test]
+fn what_may_not_arrive_is_refused_for_its_first_cause(rt: HostRuntime) -> Result<(), Fail> {
+    check_cases(rt.alloc(), REFUSED)
 }

@@ -3,5 +3,9 @@ mod Boxed
 mod Causes
 mod Copies
 mod Handles
+mod Held
+mod Histories
+mod Sent
 mod Sizes
 mod Values
+mod Verifiers

@@ -11,10 +11,10 @@ use Rattle.themis_c.specs.declared.TheConstants.{OK, VACANT, NO_MEMORY, LONG, UN
 abbrev pub IsOkOrNoMemory : ℕ → Type 0
 IsOkOrNoMemory status = (status ≡ OK) ⊎ (status ≡ NO_MEMORY)
 
--- The call can't fail on a replica.
-pub record IsHeldStatus (status : ℕ) (seat : Option Seat) : Type 0 where
-  pub ok : (status ≡ OK) ↔ (seat ≢ None)
-  pub vacant : (status ≡ VACANT) ↔ (seat ≡ None)
+-- The call can't fail on a replica, or on a verifier.
+pub record IsHeldStatus {X : Type 0} (status : ℕ) (held : Option X) : Type 0 where
+  pub ok : (status ≡ OK) ↔ (held ≢ None)
+  pub vacant : (status ≡ VACANT) ↔ (held ≡ None)
 
 -- Of an event that is to be prepared: it does not fit a record; or it does, and the replica has halted; or it does, and
 -- the replica runs.

@@ -1,7 +1,9 @@
 pub mod Answers
 pub mod Calls
+pub mod Histories
 pub mod Openings
 pub mod Owned
 pub mod Receipts
 pub mod Statuses
+pub mod Verifiers
 pub mod Audits

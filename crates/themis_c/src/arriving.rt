@@ -34,6 +34,7 @@ pub extern "C" fn themis_arrive(
     ensures short { handle.old.seat ≢ None → (result ≡ SHORT) ↔ (length into.old < 480) }
     ensures same { result ≡ SHORT → handle.new.seat ≡ handle.old.seat }
     ensures kept { result ≢ OK → into.new ≡ into.old }
+    ensures uncounted { result ≢ OK → (count.new ≡ count.old) × (given.new ≡ given.old) }
     ensures status { handle.old.seat ≢ None → result ≢ SHORT → IsOkOrNoMemory result }
     ensures vacant { (result ≡ VACANT) ↔ (handle.old.seat ≡ None) }
 {
@@ -52,6 +53,7 @@ fn arrive(replica: &mut Replica, into: &mut [CTx], count: &mut usize, given: &mu
     ensures short { (result ≡ SHORT) ↔ (length into.old < 480) }
     ensures same { result ≡ SHORT → replica.new ≡ replica.old }
     ensures kept { result ≢ OK → into.new ≡ into.old }
+    ensures uncounted { result ≢ OK → (count.new ≡ count.old) × (given.new ≡ given.old) }
     ensures status { result ≢ SHORT → IsOkOrNoMemory result }
 {
     if into.len() < MAX_ARRIVALS {
@@ -82,6 +84,7 @@ pub extern "C" fn themis_arrive_proposed(
     ensures short { handle.old.seat ≢ None → (result ≡ SHORT) ↔ (length into.old < 480) }
     ensures refused { result ≢ OK → handle.new.seat ≡ handle.old.seat }
     ensures kept { result ≢ OK → into.new ≡ into.old }
+    ensures uncounted { result ≢ OK → count.new ≡ count.old }
     ensures status { handle.old.seat ≢ None → result ≢ SHORT → IsOkOrNoMemory result }
     ensures vacant { (result ≡ VACANT) ↔ (handle.old.seat ≡ None) }
 {
@@ -99,6 +102,7 @@ fn arrive_proposed(replica: &mut Replica, into: &mut [CTx], count: &mut usize) -
     ensures short { (result ≡ SHORT) ↔ (length into.old < 480) }
     ensures refused { result ≢ OK → replica.new ≡ replica.old }
     ensures kept { result ≢ OK → into.new ≡ into.old }
+    ensures uncounted { result ≢ OK → count.new ≡ count.old }
     ensures status { result ≢ SHORT → IsOkOrNoMemory result }
 {
     if into.len() < MAX_ARRIVALS {

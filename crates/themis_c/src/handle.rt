@@ -20,9 +20,10 @@ pub struct Handle {
 }
 
 impl Model for Handle {
+    ghost use Rattle.replica_box.specs.contracts.replica.Replica.{the_row};
     ghost use Rattle.themis_c.specs.Owned.{held_at};
 
-    ghost also_owns = { λ h. held_at h.alloc h.at h.seat };
+    ghost also_owns = { λ h. held_at the_row h.alloc h.at h.seat };
 }
 
 impl Handle {

@@ -3,9 +3,12 @@
 //! A call returns a status. Where it is not [`OK`], the replica is as it was, except after [`HALTED`] and [`AGAIN`], and after
 //! [`NO_MEMORY`] of `themis_accepted` and `themis_arrive`, which may have received some transactions of blocks. A call on a
 //! vacant handle returns [`VACANT`]. Which statuses a call may return, and why, is in `specs/Answers`, and for an opening in
-//! `specs/Openings`. The clauses are those of `replica_box`; `bindings/c/themis.h` lists what a host promises. The proofs of
-//! `Handle` and `Loose` own the pointer; all exports are safe code over them. A crate can't depend on a static library, so the
-//! tests of the exports stand here (`tests`); those of the calls below are in `tests_box`, and hosts in C in `bindings/c`.
+//! `specs/Openings`. The clauses are those of `replica_box`; `bindings/c/themis.h` lists what a host promises. A second handle,
+//! [`History`], is for the audit of a chain of sessions (`sessions`, `specs/Histories`); its clauses are those of
+//! `session_rules`. Where it is vacant, nothing is final. A third one, [`VerifierHandle`], checks seals on another thread
+//! (`verifying`, `specs/Verifiers`). The proofs of the handles and of `Loose` own the pointers; all exports are safe code over
+//! them. A crate can't depend on a static library, so the tests of the exports stand here (`tests`); those of the calls below
+//! are in `tests_box`, and hosts in C in `bindings/c`.
 #![tactic(auto)]
 
 mod acting;
@@ -13,18 +16,26 @@ mod arriving;
 mod auditing;
 mod foreseeing;
 mod handle;
+mod history;
 mod loose;
 mod opening;
 mod outcome;
 mod preparing;
 mod received;
 mod receiving;
+mod sessions;
 mod state;
 #[cfg(test)]
 mod tests;
+mod verifier_handle;
+mod verifying;
 
 pub use auditing::{BAD_TRACE, CFinding, COLLIDED, FORGED, OTHER_KEYS, OTHER_RUN, UNLAWFUL};
 pub use handle::Handle;
+pub use history::History;
+pub use sessions::{ALREADY_FINAL, NOT_CARRIED, OTHER_MARKER};
+pub use verifier_handle::VerifierHandle;
+pub use verifying::OTHER_VERIFIER;
 
 /// The call did what it is for.
 pub const OK: u32 = 0;

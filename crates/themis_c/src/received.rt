@@ -26,6 +26,7 @@ pub extern "C" fn themis_receipts(
 ) -> u32
     ensures copied { result ≡ OK → IsSomeAnd handle.old.seat (λ seat. into.new ≡ map c_receipt (receipts_after after (length into.old) seat.desk) ++ drop count.new into.old) }
     ensures count { result ≡ OK → IsSomeAnd handle.old.seat (λ seat. count.new ≡ length (receipts_after after (length into.old) seat.desk)) }
+    ensures uncounted { result ≢ OK → count.new ≡ count.old }
     ensures same { handle.new.seat ≡ handle.old.seat }
     ensures kept { result ≢ OK → into.new ≡ into.old }
     ensures status { handle.old.seat ≢ None → IsOkOrNoMemory result }
@@ -42,6 +43,7 @@ pub extern "C" fn themis_receipts(
 fn copy_receipts(replica: &Replica, after: u64, into: &mut [CReceipt], count: &mut usize) -> u32
     ensures copied { result ≡ OK → into.new ≡ map c_receipt (receipts_after after (length into.old) replica.now.desk) ++ drop count.new into.old }
     ensures count { result ≡ OK → count.new ≡ length (receipts_after after (length into.old) replica.now.desk) }
+    ensures uncounted { result ≢ OK → count.new ≡ count.old }
     ensures kept { result ≢ OK → into.new ≡ into.old }
     ensures status { IsOkOrNoMemory result }
 {

@@ -42,6 +42,7 @@ pub extern "C" fn themis_views(
 #[unsafe(no_mangle)]
 pub extern "C" fn themis_batches(alloc: Global, handle: &mut Handle, count: &mut usize) -> u32
     ensures count { result ≡ OK → IsSomeAnd handle.old.seat (λ seat. count.new ≡ at_most_usize (length (finals_at seat.node.state.known))) }
+    ensures uncounted { result ≢ OK → count.new ≡ count.old }
     ensures status { handle.old.seat ≢ None → IsOkOrNoMemory result }
     ensures same { handle.new.seat ≡ handle.old.seat }
     ensures vacant { (result ≡ VACANT) ↔ (handle.old.seat ≡ None) }
@@ -56,6 +57,7 @@ pub extern "C" fn themis_batches(alloc: Global, handle: &mut Handle, count: &mut
 
 fn count_batches(replica: &Replica, count: &mut usize) -> u32
     ensures count { result ≡ OK → count.new ≡ at_most_usize (length (finals_at replica.now.node.state.known)) }
+    ensures uncounted { result ≢ OK → count.new ≡ count.old }
     ensures status { IsOkOrNoMemory result }
 {
     match replica.batch_count() {
@@ -79,6 +81,7 @@ pub extern "C" fn themis_batch(
     ensures given { result ≢ NO_MEMORY → (seat : Seat) → handle.old.seat ≡ Some seat → IsGiven (option_map (map c_tx) (slice_get (finals_at seat.node.state.known) at)) result into.old into.new count.new }
     ensures same { handle.new.seat ≡ handle.old.seat }
     ensures kept { result ≢ OK → into.new ≡ into.old }
+    ensures uncounted { result ≡ NO_MEMORY → count.new ≡ count.old }
     ensures vacant { (result ≡ VACANT) ↔ (handle.old.seat ≡ None) }
 {
     let Some(replica) = handle.take(alloc) else {
@@ -92,6 +95,7 @@ pub extern "C" fn themis_batch(
 fn copy_batch(replica: &Replica, at: usize, into: &mut [CTx], count: &mut usize) -> u32
     ensures given { result ≢ NO_MEMORY → IsGiven (option_map (map c_tx) (slice_get (finals_at replica.now.node.state.known) at)) result into.old into.new count.new }
     ensures kept { result ≢ OK → into.new ≡ into.old }
+    ensures uncounted { result ≡ NO_MEMORY → count.new ≡ count.old }
     ensures held { result ≢ VACANT }
 {
     match replica.batch(at) {
@@ -102,7 +106,7 @@ fn copy_batch(replica: &Replica, at: usize, into: &mut [CTx], count: &mut usize)
 }
 
 /// Copies transactions to the start of a buffer, where they fit, and writes how many they are.
-fn copy_txs(txs: &[Tx], into: &mut [CTx], count: &mut usize) -> u32
+pub(crate) fn copy_txs(txs: &[Tx], into: &mut [CTx], count: &mut usize) -> u32
     ensures given { IsGiven (Some (map c_tx txs.now)) result into.old into.new count.new }
     ensures held { (result ≢ VACANT) × (result ≢ NONE) × (result ≢ NO_MEMORY) }
 {
@@ -217,6 +221,7 @@ pub extern "C" fn themis_give(
     ensures refused { result ≡ NO_MEMORY → (seat : Seat) → handle.old.seat ≡ Some seat → give_at seat.node.state.known above at ≢ None }
     ensures same { handle.new.seat ≡ handle.old.seat }
     ensures kept { result ≢ OK → into.new ≡ into.old }
+    ensures uncounted { result ≡ NO_MEMORY → size.new ≡ size.old }
     ensures vacant { (result ≡ VACANT) ↔ (handle.old.seat ≡ None) }
 {
     let Some(replica) = handle.take(alloc) else {
@@ -231,6 +236,7 @@ fn copy_give(replica: &Replica, above: u32, at: usize, into: &mut [u8], size: &m
     ensures given { result ≢ NO_MEMORY → IsGiven (give_at replica.now.node.state.known above at) result into.old into.new size.new }
     ensures refused { result ≡ NO_MEMORY → give_at replica.now.node.state.known above at ≢ None }
     ensures kept { result ≢ OK → into.new ≡ into.old }
+    ensures uncounted { result ≡ NO_MEMORY → size.new ≡ size.old }
     ensures held { result ≢ VACANT }
 {
     match replica.give(above, at) {

@@ -3,7 +3,9 @@
 mod audits;
 mod bench;
 mod copies;
+mod histories;
 mod openings;
 mod receipts;
 mod runs;
 mod vacant;
+mod verifiers;

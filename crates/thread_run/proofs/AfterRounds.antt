@@ -26,14 +26,12 @@ use Rattle.thread_run.proofs.Heard.{taken_heard}
 use Rattle.thread_run.proofs.MannedRuns.{Remains, manned_on}
 use Rattle.thread_run.proofs.Submissions.{serve_self}
 use Rattle.thread_run.proofs.Zips.{or_other, or_set, zip_back, zip_from, zip_map, zip_there}
+use Rattle.thread_run.proofs.Timeliness.{AreBy}
 
 -- ---- no arrival is later than any turn
 
 abbrev IsBy : ℕ → List Arrival → Type 0
 IsBy most bs = AllByRecursion (λ (a : Arrival). a.turn ≤ most) bs
-
-abbrev AreBy : ℕ → List TimedTx → Type 0
-AreBy most ts = AllByRecursion (λ (t : TimedTx). t.turn ≤ most) ts
 
 put_by : (most : ℕ) (bs : List Arrival) (a : Arrival) → a.turn ≤ most → IsBy most bs → IsBy most (put_by_turn bs a)
 put_by most [] a le h = (le, tt)

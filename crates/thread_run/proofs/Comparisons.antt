@@ -9,7 +9,7 @@ use Rattle.std.proofs.lemmas.Option.{get_or_from_slice_get, same_Some, slice_get
 use Rattle.mailbox.specs.Boxes.{Sender, of}
 use Rattle.thread_run.specs.Workers.{Working}
 use Rattle.thread_run.specs.Pairs.{AllCompared, Answers, AnswersAll, AnswersAt, Compared, Decided}
-use Rattle.thread_run.proofs.Zips.{some_at}
+use Rattle.round_rules.proofs.Places.{found_at}
 
 pub decided_none : (P : ℕ → Bool → Type 0) → Decided P 0 true
 decided_none P = record { each = λ i lt. absurd (omega (arith, lt)); yes = λ is i lt. absurd (omega (arith, lt)); no = λ is. absurd (true≢false is) }
@@ -120,6 +120,6 @@ module _ {S : Type 0} (workers : List (Working S)) where
       no false b every =
           let (i, lt, row) = b.no refl in
           let (k, lt', p) = row.no refl in
-          let (t, is) = some_at workers i lt in
-          let (s, it) = some_at workers k lt' in
+          let (t, is) = found_at workers i lt in
+          let (s, it) = found_at workers k lt' in
           differ t s (every i k t s is it) (of_both i k false t s is it p)

@@ -4,7 +4,6 @@ use Rattle.std.proofs.lemmas.Bool.{or_right}
 use Rattle.std.specs.Prelude.{Ok, Err}
 use Rattle.std.specs.Option.{is_some}
 use Rattle.std.proofs.lemmas.List.{map-append, take-append-drop}
-use Rattle.std.proofs.lemmas.List.Folds.{list_any-append}
 use Rattle.seq_base.specs.declared.tx.Tx.{Tx}
 use Rattle.seq_base.specs.Tx.{tx_eq, tx_eq_decides}
 use Rattle.seq_base.specs.Lists.{holds}
@@ -23,13 +22,11 @@ use Rattle.thread_run.specs.declared.driver.Driver.{Driver}
 use Rattle.thread_run.specs.Going.{DriverGoes, HasGiven, HasTried, Tries}
 use Rattle.thread_run.specs.Exchange.{DriverHears, IsDriverOf}
 use Rattle.thread_run.proofs.Timeliness.{gains_on, gains_self}
+use Rattle.round_rules.proofs.GrownJournals.{holds_longer}
 
 holds_last : (list : List Tx) (t : Tx) → holds t (list ++ t ∷ []) ≡ true
 holds_last [] t = or_left (tx_eq t t) false ((tx_eq_decides t t).1 refl)
 holds_last (x ∷ xs) t = or_right (tx_eq x t) (holds t (xs ++ t ∷ [])) (holds_last xs t)
-
-holds_longer : (t : Tx) (list more : List Tx) → holds t list ≡ true → holds t (list ++ more) ≡ true
-holds_longer t list more is = list_any-append (λ x. tx_eq x t) list more ∙ or_left (holds t list) (holds t more) is
 
 -- ---- one transaction
 

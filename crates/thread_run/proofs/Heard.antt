@@ -21,6 +21,7 @@ use Rattle.replica_seat.specs.Seats.{Meaning}
 use Rattle.replica_seat.specs.declared.arrivals.TimedTx.{TimedTx}
 use Rattle.round_rules.specs.Moments.{Holds, Moment, turns_at}
 use Rattle.round_rules.specs.Submissions.{client_list}
+use Rattle.round_rules.proofs.Places.{all_at, found_at}
 use Rattle.thread_run.specs.declared.driver.Driver.{Driver}
 use Rattle.thread_run.specs.declared.runs.Run.{Run}
 use Rattle.thread_run.specs.Going.{AllTaken, HasGoneOn, IsClientOf, IsGoing}
@@ -34,7 +35,7 @@ use Rattle.thread_run.proofs.JournalRounds.{hears_stands, seen_is}
 use Rattle.thread_run.proofs.LogNews.{held_longer}
 use Rattle.thread_run.proofs.TimelyRuns.{early_after, given_heard, known_within}
 use Rattle.client_logs.proofs.Zips.{zip_length}
-use Rattle.thread_run.proofs.Zips.{all_at, same_at_each, some_at, zip_back, zip_there}
+use Rattle.thread_run.proofs.Zips.{same_at_each, zip_back, zip_there}
 
 module _ {S : Type 0} where
   -- ---- journals
@@ -134,7 +135,7 @@ module _ {S : Type 0} (fits : Check) (plan : Plan) (m : Meaning S) (gives : ℕ 
       let (w, is, fresh, ok) = h.manned.replicas at lt in
       let drivers = zip_length IsDriverOf new.world.logs.items new.drivers.items h.manned.drivers in
       let logs = h.manned.logs in
-      let (e, e_is) = some_at new.drivers.items at (omega (arith, lt, drivers, logs)) in
+      let (e, e_is) = found_at new.drivers.items at (omega (arith, lt, drivers, logs)) in
       let (b, b_is, heard) = zip_back DriverHears h.between new.drivers.items at e h.heard e_is in
       let (a, a_is, sub) = zip_back (Submits turns) old.drivers.items h.between at b h.submitted b_is in
       let none : b.fault ≡ None = sym heard.fault ∙ taken.drivers_took at e e_is in

@@ -22,6 +22,7 @@ use Rattle.replica_seat.specs.Opening.{fresh_replica}
 use Rattle.replica_seat.specs.Seats.{Meaning, Replica as Shape, Seated, replica_of}
 use Rattle.round_rules.specs.Journals.{events_of, ticks_in}
 use Rattle.round_rules.specs.Moments.{everyone}
+use Rattle.round_rules.proofs.Places.{all_at, found_at, range_at}
 use Rattle.thread_run.specs.declared.driver.Driver.{Driver}
 use Rattle.thread_run.specs.declared.runs.Run.{Run}
 use Rattle.thread_run.specs.Finishing.{column}
@@ -34,7 +35,7 @@ use Rattle.thread_run.specs.Exchange.{IsDriverOf}
 use Rattle.thread_run.specs.Workers.{Did, IsOf, Ready, Working}
 use Rattle.thread_run.proofs.WorkDone.{did_nothing}
 use Rattle.thread_run.proofs.InitialLists.{column_at, drivers_of_logs, fresh_at, given_at, no_deliveries, no_turns, parts_of_logs, seated, senders_of, workers_at, workers_count}
-use Rattle.thread_run.proofs.Zips.{all_at, all_places, range_at, some_at, zip_back, zip_map}
+use Rattle.thread_run.proofs.Zips.{all_places, zip_back, zip_map}
 
 -- a seat for each replica
 pub seats_count : {S A : Type 0} (plan : Plan) (m : Meaning S) (shape : A → Signer) (sealers : List A) (seats : List (Seated S)) → map (λ s. (shape s).replica) sealers ≡ everyone plan
@@ -105,11 +106,11 @@ module _ {S A : Type 0} (plan : Plan) (run : Run S) (m : Meaning S) (shape : A �
   at_place : (at : ℕ) → at < n → AtPlace at
   at_place at lt =
       let len = logs_count in
-      let (l, il) = some_at logs at (omega (arith, len, lt)) in
+      let (l, il) = found_at logs at (omega (arith, len, lt)) in
       let many = boxes_count in
-      let (b, ib) = some_at boxes at (omega (arith, many, lt)) in
+      let (b, ib) = found_at boxes at (omega (arith, many, lt)) in
       let count = seat_count in
-      let (s, is) = some_at seats at (omega (arith, count, lt)) in
+      let (s, is) = found_at seats at (omega (arith, count, lt)) in
       let io : slice_get own at ≡ Some (pass_with 1 l) = slice_get-map (pass_with 1) logs at ∙ ap (option_map (pass_with 1)) il in
       let it : slice_get takes at ≡ Some (receiver_in b []) = ap (λ (l : List Receiver). slice_get l at) takes_are ∙ slice_get-map (λ (x : Box). receiver_in x []) boxes at ∙ ap (option_map (λ (x : Box). receiver_in x [])) ib in
       let none : 0 + at ≡ at = omega arith in
@@ -221,7 +222,7 @@ module _ {S A : Type 0} (plan : Plan) (run : Run S) (m : Meaning S) (shape : A �
       taken = refl;
       sent = λ to below. (
           let many = boxes_count in
-          let (b, ib) = some_at boxes to (omega (arith, many, below)) in
+          let (b, ib) = found_at boxes to (omega (arith, many, below)) in
           (sender_in b.name at, column_at boxes rows n at to b dealt lt ib, refl, refl));
       turns = refl;
       known = refl;

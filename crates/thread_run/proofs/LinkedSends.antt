@@ -1,5 +1,5 @@
 -- What is put in transit to a replica is what the link gives for what the journal sends it.
-use Rattle.std.proofs.Common.{◌≡◌, ℕ, zero, suc, ◌==◌, Bool, true, false, List, [], ◌∷◌, ◌++◌, if◌then◌else◌, refl, ap, sym, subst, ◌∙◌, inl, inr, append_assoc, append-nil, arith}
+use Rattle.std.proofs.Common.{◌≡◌, ℕ, ◌==◌, Bool, true, false, List, [], ◌∷◌, ◌++◌, if◌then◌else◌, refl, ap, sym, subst, ◌∙◌, inl, inr, append_assoc, append-nil, arith}
 use Rattle.std.specs.Prelude.{slice_get, slice_set, Option, Some, None}
 use Rattle.std.specs.List.{fold}
 use Rattle.std.proofs.lemmas.Bool.{cases_Bool}
@@ -20,22 +20,9 @@ use Rattle.replica_seat.specs.Acting.{Acted, After, Way, acted, after_event, env
 use Rattle.replica_seat.specs.declared.seat.Envelope.{Envelope}
 use Rattle.round_rules.specs.Journals.{bytes_to, delivered_from, events_of, sent_to}
 use Rattle.round_rules.specs.Acts.{acts, on_way_to}
+use Rattle.round_rules.proofs.Places.{get_other, get_set}
 use Rattle.thread_run.specs.Workers.{letters_in, posted, posted_for, posted_one}
 use Rattle.thread_run.proofs.ReplicaEvents.{acts_after, begin, following}
-
--- ---- a list with one item exchanged
-
-pub get_set : {X : Type 0} (xs : List X) (i : ℕ) (x y : X) → slice_get xs i ≡ Some y → slice_get (slice_set xs i x) i ≡ Some x
-get_set [] i x y found = absurd (cc)
-get_set (z ∷ xs) zero x y found = refl
-get_set (z ∷ xs) (suc i) x y found = get_set xs i x y found
-
-pub get_other : {X : Type 0} (xs : List X) (i j : ℕ) (x : X) → (i ≡ j → ⊥) → slice_get (slice_set xs i x) j ≡ slice_get xs j
-get_other [] i j x other = refl
-get_other (z ∷ xs) zero zero x other = absurd (other refl)
-get_other (z ∷ xs) zero (suc j) x other = refl
-get_other (z ∷ xs) (suc i) zero x other = refl
-get_other (z ∷ xs) (suc i) (suc j) x other = get_other xs i j x (λ e. other (ap suc e))
 
 -- ---- one link over several sends
 

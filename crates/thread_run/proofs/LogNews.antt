@@ -18,9 +18,9 @@ use Rattle.thread_run.specs.Exchange.{AreSeated, DriverHears, HeardFirst, HoldsF
 use Rattle.thread_run.specs.declared.driver.Driver.{Driver}
 use Rattle.thread_run.specs.Workers.{Working}
 use Rattle.thread_run.proofs.WorkDone.{looked_on, looked_self}
-use Rattle.thread_run.proofs.LinkedSends.{get_other}
 use Rattle.thread_run.proofs.Zips.{or_other, or_set, zip_back, zip_on, zip_one, zip_self}
 use Rattle.client_logs.proofs.Zips.{zip_at, zip_length}
+use Rattle.round_rules.proofs.Places.{get_other}
 
 -- ---- they are informed of nothing, and of more
 

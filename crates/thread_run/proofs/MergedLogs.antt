@@ -5,12 +5,10 @@ use Rattle.std.specs.List.{AllZip, flat_map, range_with_len}
 use Rattle.std.specs.Option.{option_to_list}
 use Rattle.std.proofs.lemmas.Grind.{flat_map-append}
 use Rattle.std.proofs.lemmas.List.{map-append}
-use Rattle.std.proofs.lemmas.List.Folds.{list_any-append}
 use Rattle.std.proofs.lemmas.List.Elements.{All-cons, All-head, All-nil, All-tail}
 use Rattle.std.proofs.lemmas.Option.{get_or_from_slice_get, same_Some, slice_get-map, slice_get_within}
 use mathlib.Core.List.{IsPrefix}
 use Rattle.seq_base.specs.declared.tx.Tx.{Tx}
-use Rattle.seq_base.specs.Tx.{tx_eq}
 use Rattle.seq_base.specs.Lists.{AreDistinct, holds}
 use Rattle.locked_log.specs.History.{IsPassOf, Known, Opened as Log, times}
 use Rattle.locked_log.proofs.Lists.{prefix_trans}
@@ -21,17 +19,18 @@ use Rattle.client_logs.specs.Merges.{IsMerge}
 use Rattle.client_logs.specs.Submitted.{AreShared, Claim, HoldEach, HoldsEach, StandIn, Stands, all_of}
 use Rattle.client_logs.specs.declared.client.Client.{Client as ClientWorker}
 use Rattle.client_logs.proofs.NextSubmission.{held_grow, stands_within}
-use Rattle.client_logs.proofs.Merges.{holds_at, or_left}
+use Rattle.client_logs.proofs.Merges.{holds_at}
 use Rattle.plan_text.specs.declared.plan.Client.{Client as Sender}
 use Rattle.plan_text.specs.declared.plan.Plan.{Plan}
 use Rattle.replica_seat.specs.Feed.{arrivals_for, txs_of}
 use Rattle.replica_seat.specs.declared.arrivals.TimedTx.{TimedTx}
 use Rattle.round_rules.specs.Submissions.{client_list, submitted_to}
+use Rattle.round_rules.proofs.Places.{found_at, range_at}
+use Rattle.round_rules.proofs.GrownJournals.{holds_longer}
 use Rattle.thread_run.specs.declared.driver.Driver.{Driver}
 use Rattle.thread_run.specs.Finishing.{CanMerge, HadMemory, HasClient, IsListOf, MergeLaws, column, rows_of}
 use Rattle.thread_run.specs.Going.{IsOwned}
 use Rattle.thread_run.proofs.JoinedPasses.{all_back, all_prefix}
-use Rattle.thread_run.proofs.Zips.{range_at, some_at}
 use Rattle.client_logs.proofs.Zips.{zip_length}
 
 -- ---- what stands in a list stands in a longer one
@@ -50,9 +49,6 @@ stands_in seen log own txs more all le is s =
 
 held_in : (seen log txs : List Tx) → IsPrefix seen log → HoldsEach seen txs → HoldsEach log txs
 held_in seen log txs le h = subst (λ (l : List Tx). HoldsEach l txs) le.1 (held_grow seen le.0 txs h)
-
-holds_prefix : (t : Tx) (txs more : List Tx) → holds t txs ≡ true → holds t (txs ++ more) ≡ true
-holds_prefix t txs more is = list_any-append (λ x. tx_eq x t) txs more ∙ or_left (holds t txs) (holds t more) is
 
 -- ---- what a client has
 
@@ -158,7 +154,7 @@ module _ (logs : List Log) where
       seen_by k j cs c q list (all_back (λ (p : Known Tx). IsPrefix p.seen list) (option_to_list (slice_get x.passes.items k)) (column k (rows_of cs)) all) found at
 
   pass_at : (k : ℕ) (c : ClientWorker) → OfClient logs c → k < length logs → (q : Known Tx) × (slice_get c.passes.items k ≡ Some q)
-  pass_at k c of lt = (let n = zip_length IsPassOf logs c.passes.items of.passes in some_at c.passes.items k (omega (arith, n, lt)))
+  pass_at k c of lt = (let n = zip_length IsPassOf logs c.passes.items of.passes in found_at c.passes.items k (omega (arith, n, lt)))
 
   whole_list : (p : Sender) (c : ClientWorker) → HasClient logs p c → client_list p ≡ numbered c.id c.count
   whole_list p c h = ap (λ (i : ℕ). numbered i p.count) (sym h.id) ∙ ap (numbered c.id) (sym h.count)
@@ -261,7 +257,7 @@ module _ (plan : Plan) (logs : List Log) (cs : List ClientWorker) (laws : MergeL
     driver_took = no_fault d.fault e.had (λ full. (
         let (t, has, was) = e.given.tried.full full in
         let (prefix, begins, many, lacks) = was in
-        let in_all : holds t (txs_of (arrivals_for plan.arrivals k)) ≡ true = ap (holds t) given_is ∙ holds_prefix t (txs_of e.given.given) (txs_of d.feed.left) has in
+        let in_all : holds t (txs_of (arrivals_for plan.arrivals k)) ≡ true = ap (holds t) given_is ∙ holds_longer t (txs_of e.given.given) (txs_of d.feed.left) has in
         not_full 0 (record { own = d.pass.own; list = txs_of (arrivals_for plan.arrivals k) }) t prefix refl in_all (prefix_trans prefix d.pass.seen list begins seen_driver) many lacks))
 
     -- and each client

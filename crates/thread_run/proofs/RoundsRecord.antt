@@ -36,6 +36,7 @@ use Rattle.round_rules.specs.Moments.{LacksOne, Moment, batches_at, due_in, ever
 use Rattle.round_rules.specs.Ran.{AreFed, AreLinked, AreShown, AreTicked, AreTurned, HadCauses, HasEnded, HasKnownSenders, IsDone, Ran, at_tick, journal_in}
 use Rattle.round_rules.specs.Rounds.{HasGone}
 use Rattle.round_rules.specs.Submissions.{submitted_to}
+use Rattle.round_rules.proofs.Places.{all_at, found_at}
 use Rattle.thread_run.specs.declared.runs.Run.{Run}
 use Rattle.thread_run.specs.Concluding.{RoundLaws, WentOn}
 use Rattle.thread_run.specs.Going.{AllTaken, HasGoneOn, IsManned, Shows}
@@ -49,7 +50,7 @@ use Rattle.thread_run.proofs.Rooms.{merged_fit}
 use Rattle.thread_run.proofs.WorkerInvariant.{known_is, replica_is, turned}
 use Rattle.thread_run.proofs.TimelyRuns.{early_after, known_prefix, known_none_early, known_within}
 use Rattle.client_logs.proofs.Zips.{zip_length}
-use Rattle.thread_run.proofs.Zips.{all_at, some_at, zip_from, zip_there}
+use Rattle.thread_run.proofs.Zips.{zip_from, zip_there}
 
 begins : (k : ℕ) (xs : List Tx) → IsPrefix (take k xs) xs
 begins zero xs = (xs, refl)
@@ -218,7 +219,7 @@ module _ {S : Type 0} (fits : Check) (plan : Plan) (m : Meaning S) (gives : ℕ 
       let is : run.ticks ≡ old.ticks = shows.ticks ∙ on.ticks in
       let count = zip_length IsDriverOf new.world.logs.items new.drivers.items manned.drivers in
       let logs = manned.logs in
-      let (e, there) = some_at new.drivers.items at (omega (arith, lt, count, logs)) in
+      let (e, there) = found_at new.drivers.items at (omega (arith, lt, count, logs)) in
       let list : List Tx = get_or run.arrivals at [] in
       let known : IsPrefix (known_in (events_of (before_tick k (before at)))) list =
       prefix_trans (known_in (events_of (before_tick k (before at)))) (known_in (events_of (before at))) list (known_prefix k (before at)) (reported_all at lt) in

@@ -18,6 +18,7 @@ use Rattle.plan_text.specs.declared.plan.Client.{Client as Sender}
 use Rattle.plan_text.specs.declared.plan.Plan.{Plan}
 use Rattle.replica_seat.specs.Feed.{arrivals_for}
 use Rattle.round_rules.specs.Submissions.{submitted_to}
+use Rattle.round_rules.proofs.Places.{all_at, found_at}
 use Rattle.thread_run.specs.declared.driver.Driver.{Driver}
 use Rattle.thread_run.specs.declared.runs.Run.{Run}
 use Rattle.thread_run.specs.Finishing.{AreAllPasses, AreFinished, CanFinish, CanMerge, HadMemory, HasClient, HasRoom, IsListOf, MergeLaws, column, rows_of}
@@ -28,7 +29,7 @@ use Rattle.thread_run.specs.Workers.{Belongs, Ready, Working}
 use Rattle.thread_run.proofs.MergedLogs.{client_found_room, driver_took, merge_is, no_fault, owned_is, seen_worker, some_full}
 use Rattle.thread_run.proofs.Columns.{can_finish, column_of, finished_at}
 use Rattle.client_logs.proofs.Zips.{zip_length}
-use Rattle.thread_run.proofs.Zips.{all_at, some_at, zip_from, zip_there}
+use Rattle.thread_run.proofs.Zips.{zip_from, zip_there}
 
 -- ---- lists, place by place
 
@@ -134,7 +135,7 @@ module _ {S : Type 0} (plan : Plan) (run : Run S) (stopped : HasStopped plan run
     at_log : (k : ℕ) → k < n → AtLog k
     at_log k lt =
         let below : k < length logs = (let len = log_count in omega (arith, len, lt)) in
-        let (d, id) = some_at drivers k (let len = driver_count in omega (arith, len, below)) in
+        let (d, id) = found_at drivers k (let len = driver_count in omega (arith, len, below)) in
         let (w, at, fresh, kept) = manned.replicas k lt in
         let in_lists : k < length lists = omega (arith, count, below) in record {
           driver = d;

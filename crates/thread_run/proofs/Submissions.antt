@@ -24,11 +24,11 @@ use Rattle.thread_run.specs.Workers.{Ready, Working}
 use Rattle.thread_run.proofs.WorkDone.{looked_self}
 use Rattle.thread_run.proofs.DriverLog.{given_looked, own_on}
 use Rattle.thread_run.proofs.LogNews.{clients_hear, workers_hear}
-use Rattle.thread_run.proofs.LinkedSends.{get_other, get_set}
 use Rattle.thread_run.proofs.MannedRuns.{PartsAddUp, Remains, Serves, client_remains, manned_on, serves_heard}
 use Rattle.thread_run.proofs.Timeliness.{goes_from_on, goes_looked, goes_lower, goes_of}
 use Rattle.client_logs.proofs.Zips.{zip_at, zip_length, zip_set}
 use Rattle.thread_run.proofs.Zips.{or_other, or_set, zip_back, zip_map, zip_of, zip_self}
+use Rattle.round_rules.proofs.Places.{get_other, get_set}
 
 -- the driver submitted what arrives at the first logs
 pub record SoManySubmit {S : Type 0} (plan : Plan) (turns k : ℕ) (old new : Run S) : Type 0 where

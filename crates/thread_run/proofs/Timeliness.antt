@@ -10,8 +10,8 @@ use Rattle.std.proofs.lemmas.List.{append_cancel_right, take-append-drop}
 use Rattle.std.proofs.lemmas.Option.{get_or_from_slice_get, same_Some, slice_get-get_or, slice_get-map, slice_get_within}
 use mathlib.Core.List.{IsPrefix}
 use Rattle.seq_base.specs.declared.tx.Tx.{Tx}
-use Rattle.seq_base.specs.Tx.{tx_eq, tx_eq_decides}
 use Rattle.seq_base.specs.Lists.{AreDistinct, holds}
+use Rattle.seq_base.proofs.Members.{holds_place}
 use Rattle.locked_log.specs.History.{HasLooked, Known, times}
 use Rattle.locked_log.proofs.Lists.{prefix_length, prefix_trans, times-append}
 use Rattle.arrival_log.specs.Arrivals.{HasSubmitted, own_after}
@@ -125,7 +125,7 @@ timed_at (x ∷ xs) (suc i) t is = timed_at xs i t is
 
 -- ---- what was given by a count of turns
 
-abbrev AreBy : ℕ → List TimedTx → Type 0
+abbrev pub AreBy : ℕ → List TimedTx → Type 0
 AreBy turns list = AllByRecursion (λ (t : TimedTx). t.turn ≤ turns) list
 
 by_at : (turns : ℕ) (list : List TimedTx) (i : ℕ) (a : TimedTx) → AreBy turns list → slice_get list i ≡ Some a → a.turn ≤ turns
@@ -191,13 +191,6 @@ one_place xs p q t distinct at there = elim (cases_order p q) [
   ])
 ]
 
-held_at : (t : Tx) (xs : List Tx) → holds t xs ≡ true → (p : ℕ) × (slice_get xs p ≡ Some t)
-held_at t [] is = absurd (cc (is))
-held_at t (x ∷ xs) is = elim (cases_Bool (tx_eq x t)) [
-  | inl so ↦ (0, ap Some ((tx_eq_decides x t).0 so))
-  | inr not_so ↦ (let rest : holds t xs ≡ true = rw not_so at is in let (p, at) = held_at t xs rest in (suc p, at))
-]
-
 longer_at : (xs ys : List Tx) (p : ℕ) (t : Tx) → IsPrefix xs ys → slice_get xs p ≡ Some t → slice_get ys p ≡ Some t
 longer_at xs ys p t le at = subst (λ (l : List Tx). slice_get l p ≡ Some t) le.1 (get_grown xs le.0 p t at)
 
@@ -215,7 +208,7 @@ one_arrival all i j a b once at there same =
 known_by : (all : List TimedTx) (turns : ℕ) (known list : List Tx) (pass : Known Tx) (i : ℕ) (t : TimedTx) → IsPrefix known list → AreDistinct list → AreDistinct (txs_of all) → IsOwned all pass list → NoneEarly all turns (length known) pass
     → slice_get all i ≡ Some t → holds t.tx known ≡ true → t.turn ≤ turns
 known_by all turns known list pass i t le distinct once owned early at held =
-    let (q, found) = held_at t.tx known held in
+    let (q, found) = holds_place known t.tx held in
     let (p, own, there) = owned.each t.tx (holds_at (txs_of all) i t.tx (tx_at all i t at)) in
     let same : p ≡ q = one_place list p q t.tx distinct there (longer_at known list q t.tx le found) in
     let within = slice_get_within known q t.tx found in

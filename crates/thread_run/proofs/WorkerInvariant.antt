@@ -23,13 +23,13 @@ use Rattle.replica_seat.specs.Opening.{fresh_replica, links_from}
 use Rattle.round_rules.specs.Journals.{delivered_from, events_of, known_in, sent_to}
 use Rattle.round_rules.specs.Rounds.{Gains, IsFed, tick_of}
 use Rattle.round_rules.specs.Acts.{acts, after_events, on_way_to}
+use Rattle.round_rules.proofs.Places.{range_at}
 use Rattle.thread_run.specs.Pairs.{Compared}
 use Rattle.thread_run.specs.Standing.{Stands}
 use Rattle.thread_run.specs.Workers.{Did, Working, Works, knows, letters_in, posted}
 use Rattle.thread_run.proofs.ReplicaEvents.{begin}
 use Rattle.thread_run.proofs.WorkDone.{did_more}
 use Rattle.thread_run.proofs.LinkedSends.{entries, entries_events, given_on, journal_is, posted_to, taken_of}
-use Rattle.thread_run.proofs.Zips.{range_at}
 
 link_at : (plan : Plan) (from to : ℕ) → to < plan.setting.n → slice_get (links_from plan from) to ≡ Some (opening plan.links from to)
 link_at plan from to lt = slice_get-map (opening plan.links from) (range_with_len 0 plan.setting.n) to ∙ ap (option_map (opening plan.links from)) (range_at 0 plan.setting.n to lt) ∙ ap (λ (k : ℕ). Some (opening plan.links from k)) (omega arith)

@@ -11,26 +11,13 @@ use Rattle.seq_base.specs.Setting.{Parameters, threshold_of}
 use Rattle.seq_base.specs.Tx.{tx_cmp}
 use Rattle.tx_class.specs.Listed.{listed_in}
 use Rattle.majority_graph.specs.Graph.{Graph, IsGraph, wanted_of}
+use Rattle.majority_graph.proofs.Wanted.{All-wanted_of, length-wanted_of-le}
 use Rattle.batch_laws.specs.Batches.{numbered}
 use Rattle.batch_laws.specs.Reached.{batches_of, heads_in, number_by_reach, reaches}
 use Rattle.fair_laws.specs.Kept.{candidates_of, kept_by, leads_to_solid}
 use Rattle.fair_update.specs.Waiting.{is_complete}
 use Rattle.chain_state.specs.Lists.{BlockLists}
 use Rattle.chain_state.specs.Proposals.{final_batches, graph_over, proposals}
-
--- ---- the wanted items of a list
-
-few_wanted : {X : Type 0} (wanted : List Bool) (xs : List X) → length (wanted_of wanted xs) ≤ length xs
-few_wanted [] xs = omega arith
-few_wanted (w ∷ ws) [] = omega arith
-few_wanted (true ∷ ws) (x ∷ xs) = omega (arith, few_wanted ws xs)
-few_wanted (false ∷ ws) (x ∷ xs) = omega (arith, few_wanted ws xs)
-
-all_wanted : {X : Type 0} (P : X → Type 0) (wanted : List Bool) (xs : List X) → All P xs → All P (wanted_of wanted xs)
-all_wanted P [] xs all = All-nil P
-all_wanted P (w ∷ ws) [] all = All-nil P
-all_wanted P (true ∷ ws) (x ∷ xs) all = All-cons P x (wanted_of ws xs) (All-head P x xs all) (all_wanted P ws xs (All-tail P x xs all))
-all_wanted P (false ∷ ws) (x ∷ xs) all = all_wanted P ws xs (All-tail P x xs all)
 
 -- ---- what a block proposes
 
@@ -45,7 +32,7 @@ all_joined P (list ∷ lists) all = All-append P list (flat_map (λ l. l) lists)
 
 all_kept : (P : Tx → Type 0) (s : Parameters) (lists : List (List Tx)) → All (All P) lists → All P (kept_by s lists)
 all_kept P s lists all =
-    all_wanted P (map (leads_to_solid s lists (candidates_of s lists)) (range_with_len 0 (length (candidates_of s lists)))) (candidates_of s lists)
+    All-wanted_of P (map (leads_to_solid s lists (candidates_of s lists)) (range_with_len 0 (length (candidates_of s lists)))) (candidates_of s lists)
     (All-filter (λ t. nat_le (threshold_of s) (listed lists t)) P (listed_in lists) (all_inserted P [] (flat_map (λ list. list) lists) (All-nil P) (all_joined P lists all)))
 
 -- the vertices of the proposals of a chain
@@ -73,9 +60,9 @@ short_batches P g few all =
     short_each numbers [] = All-nil (IsShort P)
     short_each numbers (c ∷ cs) =
         let wanted : List Bool = map (λ n. n == c) numbers in
-        let fewer : length (wanted_of wanted g.vertices) ≤ length g.vertices = few_wanted wanted g.vertices in
+        let fewer : length (wanted_of wanted g.vertices) ≤ length g.vertices = length-wanted_of-le wanted g.vertices in
         All-cons (IsShort P) (numbered numbers g.vertices c) (map (numbered numbers g.vertices) cs)
-        (record { few = omega (arith, fewer, few); each = all_wanted P wanted g.vertices all })
+        (record { few = omega (arith, fewer, few); each = All-wanted_of P wanted g.vertices all })
         (short_each numbers cs)
 
 short_finals : (P : Tx → Type 0) (graphs : List Graph) → All IsGraph graphs → All (λ g. All P g.vertices) graphs → All (IsShort P) (final_batches graphs)

@@ -30,7 +30,7 @@ use Rattle.replay_run.specs.World.{World}
 use Rattle.lawful_runs.specs.Honest.{IsRun, capacity_at}
 use Rattle.lawful_runs.specs.Lawful.{AreMadeFor}
 use Rattle.lawful_runs.specs.RunClaims.{HasArrivalLists, WhereHonest, WhereSealers}
-use Rattle.lawful_runs.proofs.Places.{found_at}
+use Rattle.round_rules.proofs.Places.{found_at}
 use Rattle.trace_form.specs.declared.keys.Keys.TheVariants.{Seed}
 use Rattle.trace_form.specs.Contents.{span_of}
 use Rattle.trace_laws.specs.Form.{FitsForm, FitsTurn, view_in}

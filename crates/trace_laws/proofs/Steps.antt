@@ -24,7 +24,7 @@ use Rattle.replay_run.specs.Acting.{event_at, event_for}
 use Rattle.replay_run.specs.Play.{run_for, start_of}
 use Rattle.replay_run.specs.Step.{advanced, arrived_at, ended, everyone, floor_of, floor_over, give_arrivals, given_at, going_on, has_all_due, next_for, replica_view, step, taken_at, taken_for, tick_all, ticked_over, reported_arrived}
 use Rattle.replay_run.specs.World.{World}
-use Rattle.lawful_runs.proofs.Places.{length_set, set_cases}
+use Rattle.round_rules.proofs.Places.{length_set, set_cases}
 use Rattle.trace_laws.specs.Form.{HasShortFloor}
 use Rattle.trace_laws.proofs.Replicas.{IsBounded, SealedTwo, bounded, feed_kept, journal_grows}
 

@@ -60,9 +60,11 @@ impl Deeds {
                 | Deed::Half
                 | Deed::Mute
                 | Deed::Reorder
+                | Deed::Boast
                 | Deed::EarlyMarker
                 | Deed::TwoKeys
-                | Deed::FalseHistory => {}
+                | Deed::FalseHistory
+                | Deed::OthersKeys => {}
             }
         }
         Ok(out)

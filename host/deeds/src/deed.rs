@@ -34,16 +34,20 @@ pub enum Deed {
     Split,
     /// Sends votes without end for a block that nobody has.
     Waste,
+    /// Claims to be some views ahead of where it is.
+    Boast,
     /// Lets the marker of a session arrive at its start, and tells so.
     EarlyMarker,
     /// Shows every second peer another key for the next session.
     TwoKeys,
     /// Tells those that are behind of another history.
     FalseHistory,
+    /// Announces made-up keys of all others for the next session.
+    OthersKeys,
 }
 
 /// Each deed, with its name in a configuration and on a command line.
-const NAMES: [(Deed, &str); 16] = [
+const NAMES: [(Deed, &str); 18] = [
     (Deed::TwoHeads, "two_heads"),
     (Deed::Forge, "forge"),
     (Deed::Half, "half"),
@@ -57,9 +61,11 @@ const NAMES: [(Deed, &str); 16] = [
     (Deed::FrontRun, "front_run"),
     (Deed::Split, "split"),
     (Deed::Waste, "waste"),
+    (Deed::Boast, "boast"),
     (Deed::EarlyMarker, "early_marker"),
     (Deed::TwoKeys, "two_keys"),
     (Deed::FalseHistory, "false_history"),
+    (Deed::OthersKeys, "others_keys"),
 ];
 
 impl Deed {
@@ -70,7 +76,7 @@ impl Deed {
 
     /// Whether it is about a change of session, so that there is nothing to do in one session alone.
     pub fn is_over_sessions(self) -> bool {
-        matches!(self, Deed::EarlyMarker | Deed::TwoKeys | Deed::FalseHistory)
+        matches!(self, Deed::EarlyMarker | Deed::TwoKeys | Deed::FalseHistory | Deed::OthersKeys)
     }
 
     /// Whether it needs seals over what the library would not seal.
@@ -108,6 +114,6 @@ mod tests {
         }
         assert_eq!("two-heads".parse(), Ok(Deed::TwoHeads));
         assert_eq!("".parse::<Deed>(), Err("no deed: ".to_owned()));
-        assert_eq!(Deed::all().filter(|it| it.is_over_sessions()).count(), 3);
+        assert_eq!(Deed::all().filter(|it| it.is_over_sessions()).count(), 4);
     }
 }

@@ -9,6 +9,7 @@
 mod acts;
 mod core;
 mod deed;
+mod false_history;
 pub mod parts;
 mod second_head;
 mod sends;

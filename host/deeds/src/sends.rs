@@ -3,15 +3,19 @@
 use std::collections::VecDeque;
 
 use bytes::Bytes;
-use themis_engine::frame::{Frame, Receipt, HEAD_BYTES};
+use themis_engine::frame::{Frame, Receipt, Standing, HEAD_BYTES};
 use themis_engine::sessions::frames::{in_session, SessionFrame};
+use themis_engine::sessions::keys::announcement;
 use themis_engine::sessions::reserved::{announcer, is_reserved, marker};
 use themis_engine::tx::Tx;
 use themis_engine::wire::{self, Kind};
 
 use crate::deed::Deed;
+use crate::false_history::FalseHistory;
 
 const MAX_KEPT: usize = 200;
+/// Views of `Boast`.
+const AHEAD: u32 = 5;
 /// The client of a replica that runs in front.
 pub const OWN_CLIENT: u32 = 77;
 /// Numbers of a client that `Split` tells of together.
@@ -43,6 +47,7 @@ pub struct Deeds {
     sent: u64,
     pub(crate) number: u32,
     pub(crate) climbed: u32,
+    false_history: FalseHistory,
 }
 
 impl Deeds {
@@ -59,6 +64,7 @@ impl Deeds {
             sent: 0,
             number: of.last_number,
             climbed: 0,
+            false_history: FalseHistory::default(),
         }
     }
 
@@ -95,9 +101,8 @@ impl Deeds {
                 let sent = self.send(to, frame.encode())?;
                 Some(in_session(session, &sent))
             }
-            Ok(SessionFrame::Part(mut part)) if self.does(Deed::FalseHistory) => {
-                part.end.digest[0] ^= 1;
-                part.batches.iter_mut().flatten().for_each(|it| it.payload ^= 1);
+            Ok(SessionFrame::Part(part)) if self.does(Deed::FalseHistory) => {
+                let part = self.false_history.tell(part);
                 Some(SessionFrame::Part(part).encode())
             }
             Ok(
@@ -105,13 +110,15 @@ impl Deeds {
                 | SessionFrame::Part(_)
                 | SessionFrame::AskSession(_)
                 | SessionFrame::Session { .. }
-                | SessionFrame::Out(_),
+                | SessionFrame::Out(_)
+                | SessionFrame::Ended(_),
             )
             | Err(_) => Some(data),
         }
     }
 
-    /// Shows every second peer another key, and tells of the marker from the start on.
+    /// Shows every second peer another key, and tells of the marker and of keys of others from the start
+    /// on.
     fn tampered_keys(&self, to: u32, session: u32, frame: Frame) -> Frame {
         match frame {
             Frame::Receipts { clock, mut receipts } => {
@@ -122,10 +129,19 @@ impl Deeds {
                 if self.does(Deed::EarlyMarker) {
                     receipts.insert(0, Receipt { tx: marker(session), stamp: 0 });
                 }
+                if self.does(Deed::OthersKeys) {
+                    receipts.splice(0..0, self.others_keys(session + 1));
+                }
                 Frame::Receipts { clock, receipts }
             }
             other => other,
         }
+    }
+
+    /// What announces a key of each other replica that it does not have.
+    fn others_keys(&self, session: u32) -> Vec<Receipt> {
+        let all = self.peers().flat_map(|peer| announcement(peer, session, &[7; 60]));
+        all.map(|tx| Receipt { tx, stamp: 0 }).collect()
     }
 
     /// What it really sends, where its engine sends a frame to a peer.
@@ -134,7 +150,19 @@ impl Deeds {
         match frame[4] {
             1 => self.send_message(to, frame, &data),
             4 => self.send_receipts(to, frame, data),
+            _ if self.does(Deed::Boast) => Some(self.boast(frame, data)),
             _ => Some(frame),
+        }
+    }
+
+    /// Its status, as if it were ahead. What it claims is a view of the session, and not the last one.
+    fn boast(&self, frame: Bytes, data: Bytes) -> Bytes {
+        match Frame::decode(frame[4], data) {
+            Ok(Frame::Status(it)) => {
+                let view = (it.view + AHEAD).min(self.views - 1).max(it.view);
+                Frame::Status(Standing { view, ..it }).encode()
+            }
+            _ => frame,
         }
     }
 
@@ -179,6 +207,7 @@ impl Deeds {
 #[cfg(test)]
 mod tests {
     use themis_engine::sessions::frames::{End, HistoryPart};
+    use themis_engine::sessions::keys::PARTS;
 
     use super::*;
 
@@ -241,6 +270,22 @@ mod tests {
         assert_eq!(told(&[Deed::Split]), ([vec![(1, HALF), key], vec![(1, 0), own, key]], true));
     }
 
+    /// The view that it claims to be in, where it is in that one.
+    fn claimed(some: &[Deed], view: u32) -> u32 {
+        let standing = Standing { view, ..Standing::default() };
+        let sent = deeds(some).send(0, Frame::Status(standing).encode()).unwrap();
+        match Frame::decode(sent[4], sent.slice(HEAD_BYTES..)) {
+            Ok(Frame::Status(it)) => it.view,
+            other => panic!("{other:?}"),
+        }
+    }
+
+    #[test]
+    fn what_becomes_of_statuses() {
+        assert_eq!(claimed(&[Deed::Mute], 7), 7);
+        assert_eq!([7, 46, 49, 50].map(|it| claimed(&[Deed::Boast], it)), [12, 49, 49, 50]);
+    }
+
     /// What a peer gets of receipts in session 3: marker or part of a key, and its payload.
     fn told_in_session(some: &[Deed], to: u32) -> Vec<(u32, u64)> {
         let frame = Frame::Receipts { clock: 9, receipts: vec![made(announcer(4), 32)] };
@@ -262,19 +307,24 @@ mod tests {
         }
         assert_eq!(told_in_session(&[Deed::TwoKeys], 0), [other]);
         assert_eq!(told_in_session(&[Deed::TwoKeys], 1), [key]);
+        let told = told_in_session(&[Deed::OthersKeys], 0);
+        let of_others = |client: &u32| told.iter().filter(|it| it.0 == *client).count();
+        assert_eq!((0..4).map(announcer).map(|it| of_others(&it)).sum::<usize>(), 4 * PARTS);
+        assert_eq!(told.last(), Some(&key));
     }
 
     #[test]
     fn a_false_history_has_other_batches() {
         let end = End { position: 1, digest: [0; 32] };
         let batches = vec![vec![made(1, 1).tx]];
-        let part = SessionFrame::Part(HistoryPart { session: 0, end, from: 0, batches }).encode();
+        let part = HistoryPart { session: 0, end, from: 0, batches: batches.clone() };
+        let part = SessionFrame::Part(part).encode();
         let sent = |deed| deeds(&[deed]).send_of_many(0, part.clone()).unwrap();
         assert_eq!(sent(Deed::Mute), part);
         let told = sent(Deed::FalseHistory);
         let told = SessionFrame::decode(told[4], &told.slice(HEAD_BYTES..));
         let Ok(SessionFrame::Part(told)) = told else { panic!("{told:?}") };
         assert_ne!(told.end, end);
-        assert_eq!(told.batches[0][0].payload, 1);
+        assert_ne!(told.batches, batches);
     }
 }

@@ -88,6 +88,11 @@ impl Clients {
         self.answered(false)
     }
 
+    /// No session follows: what still waits hears that.
+    pub fn end(&mut self) -> Vec<(Ticket, Answer)> {
+        self.answered(true)
+    }
+
     /// The answers that are due. That a transaction is safe lasts for a session, so none is asked
     /// again; the last one comes first, as it is mostly the last to arrive.
     pub fn take(

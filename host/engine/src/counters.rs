@@ -1,4 +1,4 @@
-//! What a replica counts since its start, for its status.
+//! What a replica counts in its session since the process started, for its status.
 
 use std::fmt;
 
@@ -30,7 +30,7 @@ pub struct OfPeer {
     pub asks_held: u64,
     /// Fetches and requests above the budget.
     pub fetches_dropped: u64,
-    /// Blocks above the bound.
+    /// Blocks that nobody asked for, or above the bound.
     pub gives_dropped: u64,
     /// Statuses above the budget.
     pub statuses_dropped: u64,

@@ -1,5 +1,6 @@
 //! The state of a replica's host, its inputs and its outputs.
 
+use std::collections::HashSet;
 use std::time::Duration;
 
 use bytes::Bytes;
@@ -241,9 +242,10 @@ impl<C: Core> Engine<C> {
                 Event::Tick(_) => {}
             }
         }
+        let stored = self.stored_blocks()?;
         // What has arrived is no longer to be let in where a block names it.
         for it in &delivered {
-            self.restore_block(it)?;
+            self.restore_block(it, &stored)?;
         }
         self.intake.restored(self.core.core.desk())?;
         if self.finals.taken > 0 {
@@ -253,19 +255,33 @@ impl<C: Core> Engine<C> {
         Ok(())
     }
 
-    fn restore_block(&mut self, it: &Delivered) -> Result<(), Error> {
+    /// The blocks above the commit that the core has.
+    fn stored_blocks(&mut self) -> Result<HashSet<Vec<u8>>, Error> {
+        let commit = self.core.commit;
+        let mut stored = HashSet::new();
+        for at in 0..self.core.core.give_count(commit)? {
+            stored.insert(wire::given_block(&self.core.core.give(commit, at)?).to_vec());
+        }
+        Ok(stored)
+    }
+
+    fn restore_block(&mut self, it: &Delivered, stored: &HashSet<Vec<u8>>) -> Result<(), Error> {
         let views = wire::block_views(&it.data);
         self.shown.store(views);
         views.into_iter().for_each(|it| self.blocks.accepted(it.view));
         self.intake.restore_block(self.core.core.desk(), &it.data)?;
-        let block = wire::given_block(&it.data);
-        if wire::given_view(&it.data).is_some() && !self.given.is_stored(block) {
-            self.given.store(it.from, block);
+        // Those up to the commit are not taken anyway. One above it has a record too where its turn
+        // refused it, after another one of its group: the core lacks it then, and has to get it.
+        let is_open = views.is_some_and(|it| it.view > self.core.commit);
+        let given = wire::given_view(&it.data).map(|_| wire::given_block(&it.data));
+        let is_there = |block: &&[u8]| !is_open || stored.contains(*block);
+        for block in given.filter(is_there) {
+            if !self.given.is_stored(block) {
+                self.given.store(it.from, block);
+            }
         }
-        // Those up to the commit are not taken anyway.
-        let is_open = |it: wire::BlockViews| it.view > self.core.commit;
-        if wire::block_views(&it.data).is_some_and(is_open) {
-            wire::proposed_block(&it.data).into_iter().for_each(|it| self.given.know(it));
+        for block in wire::proposed_block(&it.data).filter(|it| is_open && stored.contains(*it)) {
+            self.given.know(block);
         }
         Ok(())
     }
@@ -344,8 +360,6 @@ impl<C: Core> Engine<C> {
         let own = self.standing();
         if let Some(floor) = self.pacemaker.due_floor(own, &self.peers, is_wanted, now) {
             self.turns.tick = Some((self.core.view, floor));
-            self.counters.ticks += 1;
-            self.counters.joins += u64::from(self.peers.view_reached() > own.view);
         }
         Ok(())
     }

@@ -8,7 +8,7 @@
 //! before.
 //!
 //! No proof covers this crate. The core is safe whatever it is given; what is here decides how well
-//! it makes progress (`docs/SERVICE.md`, "What a host has to do").
+//! it makes progress (`docs/HOSTING.md`, "What a host has to do").
 
 #![forbid(unsafe_code)]
 

@@ -64,6 +64,8 @@ pub struct Options {
     pub fetch_rate: f64,
     /// How fast views may follow one another.
     pub pace: PaceOptions,
+    /// The last session that this replica opens, where its operator ends the cluster with it.
+    pub last_session: Option<u32>,
 }
 
 /// How fast views may follow one another. Views are few, so a session in which little waits is
@@ -105,6 +107,7 @@ impl Default for Options {
             log_receipts: false,
             fetch_rate: 100.0,
             pace: PaceOptions::default(),
+            last_session: None,
         }
     }
 }

@@ -5,7 +5,7 @@ use crate::counters::Count;
 use crate::engine::Engine;
 use crate::time::Time;
 
-/// Where a replica stands, and what it counted since its start.
+/// Where a replica stands, and what it counted in its session since the process started.
 #[derive(Clone, Debug)]
 pub struct Status {
     /// Its view.

@@ -110,7 +110,10 @@ impl<C: Core> Engine<C> {
     fn gather(&mut self, now: Time) -> Result<VecDeque<Event>, Error> {
         let mut events = VecDeque::from(std::mem::take(&mut self.turns.again));
         if let Some((view, floor)) = self.turns.tick.take() {
+            // While a record is being written one may be due again, for a view that it leaves.
             if view == self.core.view {
+                self.counters.ticks += 1;
+                self.counters.joins += u64::from(self.peers.view_reached() > view);
                 events.push_back(Event::Tick(floor));
             }
         }

@@ -12,6 +12,8 @@ use themis::{Message, Reason};
 
 #[path = "bounds_tests.rs"]
 mod bounds;
+#[path = "ticks_tests.rs"]
+mod ticks;
 
 /// Accepts all but what `refuses` names, and sends what `sends` holds next.
 #[derive(Default)]

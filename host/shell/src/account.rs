@@ -4,7 +4,7 @@
 //! An audit has to know what each turn of the core returned and sealed. The core seals the same again
 //! only with the replica's secret, so its account is made where the secret lies. What it prints is
 //! public: events, reasons, sealed statements and batches. `service.audit` reads it
-//! (docs/SERVICE.md, "The audit").
+//! (docs/TESTING.md, "The audit").
 //!
 //! The log has to be free: a secret is used by one core at a time. Where sessions follow one another,
 //! the log of a closed session is free while the replica runs.

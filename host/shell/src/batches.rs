@@ -149,7 +149,7 @@ pub(crate) mod tests {
     fn stored(folder: &std::path::Path) -> Reader {
         let (path, owner) = (folder.join("0.store"), OWNER);
         let _ = std::fs::remove_file(&path);
-        Store::create(&path, &owner, 0, "", &Vec::new()).unwrap();
+        Store::create(&path, &owner, 0, "", &Vec::new(), None).unwrap();
         let (batches, mut digest) = ([1, 2, 3].map(batch), [0; 32]);
         for it in &batches {
             let mut data = Vec::new();

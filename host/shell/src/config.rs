@@ -1,180 +1,27 @@
 //! Configurations, in TOML: one file that all replicas share, and one for each replica, as
 //! `service.cluster make` writes them. Paths are relative to the file that names them.
 
-use std::net::SocketAddr;
-use std::os::unix::fs::PermissionsExt;
-use std::path::{Path, PathBuf};
-use std::time::Duration;
+mod cluster;
+mod files;
+mod hex;
+mod own;
 
-use serde::{Deserialize, Deserializer, Serialize};
+use std::net::SocketAddr;
+use std::path::{Path, PathBuf};
+
 use sha2::{Digest, Sha256};
-use themis::{Height, Role};
+use themis::Role;
 use themis_engine::setting::{Options, PaceOptions, Place};
 use themis_engine::tx::{self, Tx};
 
-use crate::exit::{Exit, Failure};
+use crate::exit::Failure;
+pub use cluster::{address_of, height_of, Cluster, Transport};
+use files::bad;
+pub use files::{folder_of, read_toml, secret_of};
+pub use hex::{hex, unhex};
+pub use own::Config;
 
-/// What all replicas of a session agree on.
-#[derive(Clone, Debug, Deserialize, Serialize)]
-#[serde(deny_unknown_fields)]
-pub struct Cluster {
-    /// The number of the session.
-    pub session: u32,
-    /// How many replicas there are.
-    pub n: u32,
-    /// How many of them may be faulty.
-    pub f: u32,
-    /// Fairness is p/q.
-    pub p: u32,
-    /// Fairness is p/q.
-    pub q: u32,
-    /// The last view.
-    pub views: u32,
-    /// Of the keys, by its number.
-    pub height: u32,
-    /// Where replicas take each other's connections, by replica.
-    pub peers: Vec<String>,
-    /// Where replicas take clients, by replica.
-    pub clients: Vec<String>,
-    /// Public keys in hexadecimal digits, by replica.
-    pub publics: Vec<String>,
-    /// Files of certificates, by replica.
-    pub certificates: Vec<String>,
-    /// The file with the certificate of the authority that signs clients' certificates.
-    #[serde(default)]
-    pub client_authority: String,
-    /// How replicas talk to each other and to clients.
-    #[serde(default)]
-    pub transport: Transport,
-}
-
-impl Cluster {
-    /// Whether each list has an item for each replica; the cause where it has not.
-    fn check(&self) -> Result<(), String> {
-        let count = self.n as usize;
-        if self.transport == Transport::Tls && self.client_authority.is_empty() {
-            return Err("client_authority is missing: who signs the certificates of clients".into());
-        }
-        let has_certificates =
-            self.transport == Transport::Plain || self.certificates.len() == count;
-        let lists = [self.peers.len(), self.clients.len(), self.publics.len()];
-        if has_certificates && lists == [count; 3] && self.f < self.n {
-            Ok(())
-        } else {
-            Err(format!("each list needs {count} items"))
-        }
-    }
-}
-
-impl Cluster {
-    /// What the library is told about a replica.
-    pub fn role(&self, me: u32) -> Result<Role, Failure> {
-        let &Cluster { n, f, p, q, views, height, .. } = self;
-        let height = height_of(height)
-            .ok_or_else(|| Failure::new(Exit::Config, format!("no height: {height}")))?;
-        Ok(Role { n, f, p, q, views, me, height })
-    }
-
-    /// The public keys, by replica; none where one of them is none.
-    pub fn keys(&self) -> Option<Vec<[u8; 60]>> {
-        self.publics.iter().map(|it| unhex(it)?.try_into().ok()).collect()
-    }
-}
-
-/// How replicas talk to each other and to clients.
-#[derive(Clone, Copy, Debug, Default, Deserialize, Serialize, PartialEq, Eq)]
-#[serde(rename_all = "lowercase")]
-pub enum Transport {
-    /// TLS 1.3.
-    #[default]
-    Tls,
-    /// Neither encrypted nor authenticated: for tests.
-    Plain,
-}
-
-/// What one replica is given. Times are in seconds.
-#[derive(Debug, Deserialize)]
-#[serde(deny_unknown_fields, default)]
-#[allow(clippy::struct_excessive_bools)] // as the file has them
-pub struct Config {
-    replica: u32,
-    cluster_file: String,
-    secret_file: String,
-    log: String,
-    /// The file of the private key.
-    pub tls_key: String,
-    carried: String,
-    settled: String,
-    #[serde(deserialize_with = "seconds")]
-    timeout: Duration,
-    #[serde(deserialize_with = "seconds")]
-    max_timeout: Duration,
-    #[serde(deserialize_with = "seconds")]
-    interval: Duration,
-    hold: bool,
-    #[serde(deserialize_with = "seconds")]
-    share_after: Duration,
-    max_waiting: usize,
-    max_of_client: usize,
-    hold_asks: bool,
-    fetch_rate: f64,
-    #[serde(deserialize_with = "seconds")]
-    view_floor: Duration,
-    #[serde(deserialize_with = "seconds")]
-    idle_view_floor: Duration,
-    /// Sessions follow one another without end. The secret file has a master secret then.
-    pub sessions: bool,
-    /// Then logs of sessions stay, once no replica needs them.
-    pub keep_logs: bool,
-    /// So many accounts of sessions whose logs do not stay.
-    pub accounts: usize,
-    /// Records are made durable.
-    pub fsync: bool,
-    /// The operator's socket takes the command `fault`.
-    pub allow_faults: bool,
-    /// What was received and heard goes to a file.
-    log_receipts: bool,
-    /// What a faulty replica of a test does. The conduct takes or refuses it.
-    pub deeds: Vec<String>,
-}
-
-impl Default for Config {
-    fn default() -> Config {
-        let options = Options::default();
-        Config {
-            replica: u32::MAX,
-            cluster_file: String::new(),
-            secret_file: String::new(),
-            log: String::new(),
-            tls_key: String::new(),
-            carried: String::new(),
-            settled: String::new(),
-            timeout: options.timeout,
-            max_timeout: options.max_timeout,
-            interval: options.interval,
-            hold: options.hold,
-            share_after: options.share_after,
-            max_waiting: options.max_waiting,
-            max_of_client: options.max_of_client,
-            hold_asks: options.hold_asks,
-            fetch_rate: options.fetch_rate,
-            view_floor: options.pace.floor,
-            idle_view_floor: options.pace.idle_floor,
-            sessions: false,
-            keep_logs: false,
-            accounts: 8,
-            fsync: true,
-            allow_faults: false,
-            log_receipts: false,
-            deeds: Vec::new(),
-        }
-    }
-}
-
-fn seconds<'de, D: Deserializer<'de>>(from: D) -> Result<Duration, D::Error> {
-    let seconds = f64::deserialize(from)?;
-    Duration::try_from_secs_f64(seconds).map_err(serde::de::Error::custom)
-}
+use crate::seal_threads::MAX_THREADS;
 
 /// A replica's configuration with that of its cluster, checked.
 #[derive(Debug)]
@@ -195,11 +42,6 @@ pub struct Setup {
     pub clients: Vec<SocketAddr>,
     /// By replica.
     pub public_keys: Vec<[u8; 60]>,
-}
-
-/// The folder of a file; of a bare name, the one that the process is in.
-pub fn folder_of(path: &Path) -> &Path {
-    path.parent().filter(|it| !it.as_os_str().is_empty()).unwrap_or(Path::new("."))
 }
 
 impl Setup {
@@ -260,7 +102,14 @@ impl Setup {
             log_receipts: it.log_receipts,
             fetch_rate: it.fetch_rate,
             pace,
+            last_session: it.last_session,
         }
+    }
+
+    /// How many threads check seals: by default one for each processor but the engine's, at most 3.
+    pub fn seal_threads(&self) -> usize {
+        let others = || std::thread::available_parallelism().map_or(0, |all| all.get() - 1);
+        self.config.seal_threads.unwrap_or_else(others).min(MAX_THREADS)
     }
 
     /// What the library is told about the replica.
@@ -305,8 +154,9 @@ impl Setup {
     pub fn session_digest(&self) -> [u8; 32] {
         let it = &self.cluster;
         let keys: Vec<_> = it.publics.iter().map(|key| format!("\"{key}\"")).collect();
+        let after = it.after.as_ref().map_or_else(String::new, |it| format!(", {}", it.named()));
         let text = format!(
-            "[{}, {}, {}, {}, {}, {}, {}, [{}]]",
+            "[{}, {}, {}, {}, {}, {}, {}, [{}]{after}]",
             it.session,
             it.n,
             it.f,
@@ -341,70 +191,5 @@ impl Setup {
         })?;
         let read = |it| tx::parse(it).ok_or_else(|| bad(&path, format!("no transaction: {it}")));
         text.split_whitespace().map(read).collect()
-    }
-}
-
-/// The address that a text names: numbers alone, since names need a server that may lie.
-pub fn address_of(text: &str) -> Option<SocketAddr> {
-    text.parse().ok()
-}
-
-/// The height of keys that a number names.
-pub fn height_of(number: u32) -> Option<Height> {
-    match number {
-        5 => Some(Height::H5),
-        10 => Some(Height::H10),
-        505 => Some(Height::H5H5),
-        510 => Some(Height::H5H10),
-        _ => None,
-    }
-}
-
-/// The bytes of a secret file, which others must not be able to read.
-pub fn secret_of<const N: usize>(path: &Path) -> Result<[u8; N], Failure> {
-    let meta = std::fs::metadata(path).map_err(|it| bad(path, it))?;
-    if meta.permissions().mode() & 0o077 != 0 {
-        return Err(bad(path, "others can read this secret: chmod 600"));
-    }
-    let text = std::fs::read_to_string(path).map_err(|it| bad(path, it))?;
-    unhex(text.trim())
-        .and_then(|it| it.try_into().ok())
-        .ok_or_else(|| bad(path, format!("this secret has {N} bytes, in hex")))
-}
-
-/// Bytes as hexadecimal digits.
-pub fn hex(data: &[u8]) -> String {
-    let digit = |it: u8| char::from_digit(u32::from(it), 16).unwrap_or('0');
-    data.iter().flat_map(|it| [digit(it >> 4), digit(it & 15)]).collect()
-}
-
-fn unhex(text: &str) -> Option<Vec<u8>> {
-    let digits: Option<Vec<u8>> =
-        text.chars().map(|it| it.to_digit(16).and_then(|it| u8::try_from(it).ok())).collect();
-    let digits = digits.filter(|it| it.len() % 2 == 0)?;
-    Some(digits.chunks(2).map(|it| it[0] << 4 | it[1]).collect())
-}
-
-fn bad(path: &Path, text: impl std::fmt::Display) -> Failure {
-    Failure::new(Exit::Config, format!("{}: {text}", path.display()))
-}
-
-/// The value of a file.
-pub fn read_toml<T: for<'de> Deserialize<'de>>(path: &Path) -> Result<T, Failure> {
-    let text = std::fs::read_to_string(path).map_err(|it| bad(path, it))?;
-    toml::from_str(&text).map_err(|it| bad(path, it))
-}
-
-#[cfg(test)]
-mod tests {
-    use super::*;
-
-    /// `cd DIR && themisd run 0.toml`: the folder is opened, listed and made durable by its name.
-    #[test]
-    fn a_bare_name_is_in_the_folder_of_the_process() {
-        for (path, folder) in [("0.toml", "."), ("./0.toml", "."), ("a/0.toml", "a"), ("/0", "/")] {
-            assert_eq!(folder_of(Path::new(path)), Path::new(folder));
-        }
-        assert!(std::fs::read_dir(folder_of(Path::new("0.toml"))).is_ok());
     }
 }

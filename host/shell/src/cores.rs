@@ -5,7 +5,7 @@
 //! while the session before runs. What the first turn sends stays in the core until the session runs.
 //! Whenever a log is begun anew, the same keys lead to the same event and the same seal.
 
-use themis::{Error, Role};
+use themis::{Error, Replica, Role};
 use themis_engine::sessions::keys::{for_library, PublicKey, PublicKeys};
 use themis_engine::sessions::requests::{OpenLog, Opened, Recover, Recovered};
 use themis_engine::sessions::secret::{secret_of, Master};
@@ -13,6 +13,7 @@ use themis_engine::sessions::secret::{secret_of, Master};
 use crate::conduct::{self, Conduct};
 use crate::exit::{Exit, Failure};
 use crate::log::EventLog;
+use crate::seal_threads::SealThreads;
 use crate::session_logs::{Marked, SessionLogs, BEGINNING_BYTES};
 use crate::timed::Timed;
 
@@ -27,6 +28,8 @@ pub struct Cores<C> {
     pub master: Master,
     /// The session that came next, or ran, when the process started.
     pub first: u32,
+    /// How many threads check seals for a core.
+    pub seal_threads: usize,
     /// What the program does to cores.
     pub conduct: C,
 }
@@ -51,6 +54,12 @@ impl<C: Conduct> Cores<C> {
         conduct::Opened { session, role: self.role, secret, public_keys, log }
     }
 
+    /// A replica as the engine has it.
+    fn core(&self, replica: Replica, opening: &conduct::Opened) -> Result<C::Core, Error> {
+        let seals = SealThreads::start(self.seal_threads, &self.role, opening.public_keys)?;
+        self.conduct.core(Timed::new(replica, seals), opening)
+    }
+
     /// A new core of a session after its first turn, and its log. None where the own key is not the
     /// agreed one.
     pub fn begin(
@@ -70,7 +79,7 @@ impl<C: Conduct> Cores<C> {
         let log = self.logs.make(session, &beginning)?;
         replica.act()?;
         tracing::info!(session, "a log was made");
-        let core = self.conduct.core(Timed::new(replica), &opening)?;
+        let core = self.core(replica, &opening)?;
         Ok(Some(Begun { session, keys: keys.clone(), core, log }))
     }
 
@@ -114,7 +123,7 @@ impl<C: Conduct> Cores<C> {
         let header = replica.header()?.len();
         let seconds = start.elapsed().as_secs_f64();
         tracing::info!(session, log_bytes = used, seconds, "a log was opened");
-        let core = self.conduct.core(Timed::new(replica), &self.opening(session, &keys, &data))?;
+        let core = self.core(replica, &self.opening(session, &keys, &data))?;
         Ok((it.recovered(core, data, header), Some(log)))
     }
 }

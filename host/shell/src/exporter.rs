@@ -140,7 +140,7 @@ mod tests {
         let _ = fs::remove_dir_all(folder);
         fs::create_dir_all(folder).unwrap();
         let (path, owner) = (folder.join("0.store"), Identity { cluster: [1; 32], replica: 0 });
-        Store::create(&path, &owner, 0, "", &Vec::new()).unwrap();
+        Store::create(&path, &owner, 0, "", &Vec::new(), None).unwrap();
         let mut store = Store::open(&path, &owner).unwrap();
         let (keys, mut digest) = (Vec::new(), [0; 32]);
         for session in 0..2 {

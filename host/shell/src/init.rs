@@ -38,13 +38,14 @@ pub struct Wanted {
     /// The height of the keys, as all replicas have it: 5, 10, 505 or 510.
     #[arg(long, default_value_t = 510)]
     pub height: u32,
+    /// The number of the cluster's first session: where it continues another cluster, the one after the
+    /// last of that.
+    #[arg(long, value_name = "SESSION", default_value_t = 0)]
+    pub first_session: u32,
     /// The cluster has one session alone. It ends for good once its views are used.
-    #[arg(long)]
+    #[arg(long, conflicts_with = "first_session")]
     pub one_session: bool,
 }
-
-/// The number of the first session, where sessions follow one another.
-pub const FIRST_SESSION: u32 = 0;
 
 /// What the others need to know of a replica.
 #[derive(Clone, Debug, Deserialize, Serialize, PartialEq, Eq)]
@@ -54,6 +55,9 @@ pub struct PublicPart {
     pub replica: u32,
     /// Its sessions follow one another.
     pub sessions: bool,
+    /// The number of the first of them.
+    #[serde(default)]
+    pub first_session: u32,
     /// Of its key, by its number.
     pub height: u32,
     /// Its public key in the first session, in hexadecimal digits.
@@ -78,11 +82,13 @@ pub fn make(wanted: &Wanted) -> Result<(), Failure> {
     refuse_taken(&paths)?;
     fs::create_dir_all(&wanted.folder).map_err(|it| failed(&wanted.folder, &it))?;
 
-    let (secret, key) = secret_and_key(height, wanted.one_session)?;
+    let first = (!wanted.one_session).then_some(wanted.first_session);
+    let (secret, key) = secret_and_key(height, first)?;
     let (tls_key, tls_certificate) = certificate::make(&wanted.replica.to_string(), &hosts)?;
     let public = PublicPart {
         replica: wanted.replica,
         sessions: !wanted.one_session,
+        first_session: wanted.first_session,
         height: wanted.height,
         public: hex(&key),
         peer: wanted.peer.clone(),
@@ -103,17 +109,18 @@ pub fn make(wanted: &Wanted) -> Result<(), Failure> {
     Ok(())
 }
 
-/// A new secret, in hexadecimal digits, and the public key of the first session.
-fn secret_and_key(height: Height, is_one: bool) -> Result<(String, PublicKey), Failure> {
+/// A new secret, in hexadecimal digits, and the public key of the first session; none has a number where
+/// there is one alone.
+fn secret_and_key(height: Height, first: Option<u32>) -> Result<(String, PublicKey), Failure> {
     let drawn = |it: &mut [u8]| sys::draw(it).map_err(|it| Failure::new(Exit::Fault, it));
-    if is_one {
+    let Some(first) = first else {
         let mut secret = [0; 48];
         drawn(&mut secret)?;
         return Ok((hex(&secret), themis::public_key(height, &secret)?));
-    }
+    };
     let mut master = [0; 32];
     drawn(&mut master)?;
-    Ok((hex(&master), own_key(height, &master, FIRST_SESSION)?))
+    Ok((hex(&master), own_key(height, &master, first)?))
 }
 
 /// The hosts of some addresses, each once; or the text that is no address.
@@ -158,6 +165,7 @@ mod tests {
             peer: "127.0.0.1:4006".to_owned(),
             client: "127.0.0.1:4007".to_owned(),
             height: 5,
+            first_session: 0,
             one_session: false,
         };
         make(&wanted).unwrap();
@@ -186,6 +194,14 @@ mod tests {
         let one = Wanted { replica: 5, one_session: true, ..wanted.clone() };
         make(&one).unwrap();
         assert_eq!(read("5.secret").len(), 96);
+
+        // The key is that of the first session, whose number names its leaves.
+        let later = Wanted { replica: 6, first_session: 42, ..wanted.clone() };
+        make(&later).unwrap();
+        let public: PublicPart = toml::from_str(&read("6.public.toml")).unwrap();
+        let master = secret_of(&wanted.folder.join("6.secret")).unwrap();
+        assert_eq!(public.public, hex(&own_key(Height::H5, &master, 42).unwrap()));
+        assert_eq!(public.first_session, 42);
 
         let no_address = Wanted { replica: 4, peer: "host".to_owned(), ..wanted.clone() };
         assert_eq!(make(&no_address).unwrap_err().exit, Exit::Usage);

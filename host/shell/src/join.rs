@@ -13,8 +13,9 @@ use themis_engine::sessions::secret::secret_of as session_secret;
 
 use crate::config::{hex, read_toml, secret_of, Cluster, Setup, Transport};
 use crate::exit::{Exit, Failure};
-use crate::init::{failed, refuse_taken, PublicPart, FIRST_SESSION};
+use crate::init::{failed, refuse_taken, PublicPart};
 use crate::new_file::{write_new, Readers};
+use crate::predecessor::{After, Predecessor};
 use crate::recovery::{self, store_path};
 use crate::sessions_worker::owner;
 
@@ -25,28 +26,32 @@ const AUTHORITY_FILE: &str = "client_authority.crt";
 #[derive(Args, Clone, Debug)]
 pub struct Setting {
     /// The folder in which `init` made this replica's files.
-    folder: PathBuf,
+    pub folder: PathBuf,
     /// The number of this replica.
     #[arg(long)]
-    replica: u32,
+    pub replica: u32,
     /// How many replicas may be faulty.
     #[arg(long)]
-    f: u32,
+    pub f: u32,
     /// The fairness, as P/Q.
     #[arg(long, value_name = "P/Q", default_value = "1/1")]
-    gamma: String,
+    pub gamma: String,
     /// The last view of a session.
     #[arg(long, default_value_t = 2600)]
-    views: u32,
+    pub views: u32,
     /// For tests: connections are neither encrypted nor authenticated.
     #[arg(long)]
-    plain: bool,
+    pub plain: bool,
+    /// The cluster that this one continues: a store of any of its replicas, or the folder of its replica
+    /// of this number, which takes over what arrived there and is not final.
+    #[arg(long, value_name = "STORE|FOLDER")]
+    pub after: Option<PathBuf>,
     /// The certificate of the authority that signs those of clients.
     #[arg(long, value_name = "FILE", required_unless_present = "plain")]
-    client_authority: Option<PathBuf>,
+    pub client_authority: Option<PathBuf>,
     /// The public parts of all replicas, this one's too.
     #[arg(required = true)]
-    parts: Vec<PathBuf>,
+    pub parts: Vec<PathBuf>,
 }
 
 /// Makes the files, once all that is given fits.
@@ -59,8 +64,10 @@ pub fn make(setting: &Setting) -> Result<(), Failure> {
     refuse_taken(&taken)?;
     let parts = parts_of(&setting.parts)?;
     let follows = parts[0].sessions;
-    let cluster = cluster_of(setting, &parts)?;
+    let before = predecessor_of(setting, &parts[0], &own("secret"))?;
+    let cluster = cluster_of(setting, &parts, before.as_ref().map(Predecessor::after))?;
     let header = header_of(&cluster, setting.replica, follows, &own("secret"))?;
+    before.as_ref().map_or(Ok(()), Predecessor::check)?;
     let authority = setting.client_authority.as_ref();
     let authority =
         authority.map(|it| std::fs::read_to_string(it).map_err(|fault| failed(it, &fault)));
@@ -76,22 +83,54 @@ pub fn make(setting: &Setting) -> Result<(), Failure> {
     put(&at(CLUSTER_FILE), &shared)?;
     let setup = Setup::load(&config)?;
     let made = if follows {
-        create_store(&setup)?
+        create_store(&setup, before.as_ref())?
     } else {
         write_new(&log, header, Readers::Owner).map_err(|it| failed(&log, &it))?;
         log
     };
     let (made, name) = (made.display(), hex(&setup.session_digest()));
     println!("made {made} for {} {name}", if follows { "cluster" } else { "session" });
+    if let Some(After { cluster, session, position, .. }) = setup.cluster.after {
+        println!("it continues cluster {cluster} after session {session}, at position {position}");
+    }
     Ok(())
 }
 
 /// Makes the store of a replica whose sessions follow one another; returns its path.
-fn create_store(setup: &Setup) -> Result<PathBuf, Failure> {
+fn create_store(setup: &Setup, before: Option<&Predecessor>) -> Result<PathBuf, Failure> {
     let keys = setup.public_keys.iter().copied().map(Some).collect();
-    let (owner, line) = (owner(setup), setup.setting_line());
-    recovery::create(&setup.folder, &owner, setup.cluster.session, &line, &keys)?;
+    let (owner, line, first) = (owner(setup), setup.setting_line(), setup.cluster.session);
+    let before = before.map(Predecessor::before);
+    recovery::create(&setup.folder, &owner, first, &line, &keys, before.as_ref())?;
     Ok(store_path(&setup.folder, setup.me()))
+}
+
+/// The cluster that this one continues, if it continues one. That has ended with the session before the
+/// one for which the parts were made.
+fn predecessor_of(
+    setting: &Setting,
+    part: &PublicPart,
+    secret: &Path,
+) -> Result<Option<Predecessor>, Failure> {
+    let first = part.first_session;
+    let Some(path) = &setting.after else {
+        return if first == 0 {
+            Ok(None)
+        } else {
+            let text = "name a store of the cluster that this one continues (--after)";
+            Err(usage(format!("the parts were made for session {first}: {text}")))
+        };
+    };
+    if !part.sessions {
+        return Err(usage("one session alone continues no other cluster".to_owned()));
+    }
+    let found = Predecessor::ended(path, setting.replica, &secret_of(secret)?)?;
+    let last = found.after().session;
+    if last.checked_add(1) == Some(first) {
+        return Ok(Some(found));
+    }
+    let text = format!("{}: the last session that has ended there is {last}", path.display());
+    Err(usage(format!("{text}, but the parts were made for session {first}")))
 }
 
 /// The header of the replica's first log. The library checks the setting, and that the key of the
@@ -146,17 +185,26 @@ fn parts_of(paths: &[PathBuf]) -> Result<Vec<PublicPart>, Failure> {
                 format!("replica {number} was made for another kind of cluster than replica 0");
             return Err(usage(text));
         }
+        if it.first_session != parts[0].first_session {
+            let text =
+                format!("replica {number} was made for another first session than replica 0");
+            return Err(usage(text));
+        }
     }
     Ok(parts)
 }
 
-fn cluster_of(setting: &Setting, parts: &[PublicPart]) -> Result<Cluster, Failure> {
+fn cluster_of(
+    setting: &Setting,
+    parts: &[PublicPart],
+    after: Option<&After>,
+) -> Result<Cluster, Failure> {
     let all = |of: fn(&PublicPart) -> &String| parts.iter().map(|it| of(it).clone()).collect();
     let fraction = setting.gamma.split_once('/');
     let fraction = fraction.and_then(|(p, q)| Some((p.parse().ok()?, q.parse().ok()?)));
     let (p, q) = fraction.ok_or_else(|| usage(format!("no P/Q: {}", setting.gamma)))?;
     Ok(Cluster {
-        session: if parts[0].sessions { FIRST_SESSION } else { 1 },
+        session: if parts[0].sessions { parts[0].first_session } else { 1 },
         n: parts.len() as u32,
         f: setting.f,
         p,
@@ -173,6 +221,7 @@ fn cluster_of(setting: &Setting, parts: &[PublicPart]) -> Result<Cluster, Failur
             .map_or("", |_| AUTHORITY_FILE)
             .to_owned(),
         transport: if setting.plain { Transport::Plain } else { Transport::Tls },
+        after: after.cloned(),
     })
 }
 
@@ -211,6 +260,11 @@ pub mod played {
 
         /// As `init` makes them.
         pub fn new(name: &str, one_session: bool) -> Five {
+            Five::of(name, 0, one_session)
+        }
+
+        /// The same, for a cluster with this first session.
+        pub fn of(name: &str, first_session: u32, one_session: bool) -> Five {
             let it =
                 Five(std::env::temp_dir().join(format!("themisd-{}-{name}", std::process::id())));
             for replica in 0..5 {
@@ -221,6 +275,7 @@ pub mod played {
                     peer: format!("127.0.0.1:{peer}"),
                     client: format!("127.0.0.1:{client}"),
                     height: 5,
+                    first_session,
                     one_session,
                 };
                 init::make(&wanted).unwrap();
@@ -244,6 +299,7 @@ pub mod played {
                 gamma: "1/1".to_owned(),
                 views: 6,
                 plain: false,
+                after: None,
                 client_authority: Some(self.0.join("authority.crt")),
                 // The order in which they are named makes no difference.
                 parts: (0..5).map(|it| part((it + replica) % 5)).collect(),
@@ -298,7 +354,7 @@ mod tests {
             assert_eq!(shared(replica), shared(0));
             let folder = five.folder(replica);
             let setup = Setup::load(&folder.join(format!("{replica}.toml"))).unwrap();
-            assert!(setup.config.sessions && setup.cluster.session == FIRST_SESSION);
+            assert!(setup.config.sessions && setup.cluster.session == 0);
             let found = recovery::open(&folder, &owner(&setup), true).unwrap();
             let keys: Vec<_> = setup.public_keys.iter().copied().map(Some).collect();
             assert_eq!((found.history.session.number, found.history.session.keys), (0, keys));

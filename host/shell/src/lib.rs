@@ -3,9 +3,10 @@
 //!
 //! A running replica has two threads. One has the engine, the core and the log (`worker`, or
 //! `sessions_worker` where sessions follow one another); the main one runs tokio, which serves the
-//! sockets. They share bounded queues alone: `input`, `link`, `batches`. With sessions there are more:
-//! the `keeper`, which has the store, one that begins the next session ahead (`cores`), and the
-//! `exporter`; and tokio reads the store in threads of its own. No proof covers this crate.
+//! sockets. They share bounded queues alone: `input`, `link`, `batches`. Up to three more check seals for
+//! the first (`seal_threads`). With sessions there are more: the `keeper`, which has the store, one that
+//! begins the next session ahead (`cores`), and the `exporter`; and tokio reads the store in threads of its
+//! own. No proof covers this crate.
 
 mod account;
 mod batches;
@@ -33,6 +34,7 @@ mod observed;
 mod operator;
 mod peer_port;
 mod picture;
+mod predecessor;
 mod read_frame;
 mod receipt_log;
 mod recovery;
@@ -41,6 +43,7 @@ mod rejoin;
 mod replace;
 mod report;
 mod run;
+mod seal_threads;
 mod session_logs;
 mod sessions_worker;
 mod sys;
@@ -94,6 +97,9 @@ enum Command {
     /// secret and the TLS key stay on this machine. No file is overwritten.
     Init(Wanted),
     /// Make what a replica of a new cluster needs besides: from the public parts of all replicas.
+    ///
+    /// With --after the new cluster continues the list of another one, which has ended: its members, f,
+    /// gamma, views and the height of keys may be others.
     ///
     /// It needs what `init` has made for this replica, the public parts of all replicas, and the
     /// certificate of the authority that signs those of clients. It writes the file that all replicas

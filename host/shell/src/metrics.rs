@@ -26,7 +26,7 @@ pub struct Counted<'a> {
     /// Syncs of the log.
     pub syncs: Spent,
     /// Calls of the core.
-    pub calls: [(&'static str, Spent); 8],
+    pub calls: [(&'static str, Spent); 9],
     /// How long transactions took.
     pub latency: &'a Histogram,
 }
@@ -40,7 +40,7 @@ const COUNTS: [(&str, &str, &str); 13] = [
     ("reason", "turns_total", "Turns, by the number of their reason in themis.h; 0 is done."),
     ("asks held", "asks_held_total", "Asks that came before their view."),
     ("fetches dropped", "fetches_dropped_total", "Fetches and requests above the budget."),
-    ("gives dropped", "blocks_dropped_total", "Blocks above the bound of a peer."),
+    ("gives dropped", "blocks_dropped_total", "Blocks that nobody asked for, or above the bound."),
     ("statuses dropped", "statuses_dropped_total", "Statuses above the budget."),
     ("receipts dropped", "receipts_dropped_total", "Frames of receipts above the budget."),
     ("refused", "messages_refused_total", "Messages that no honest replica sends."),
@@ -201,7 +201,7 @@ mod tests {
             frames_dropped: 0,
             bad_frames: 6,
             syncs: spent,
-            calls: [("turn", spent); 8],
+            calls: [("turn", spent); 9],
             latency,
         }
     }

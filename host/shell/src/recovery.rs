@@ -21,13 +21,15 @@
 //! | s-1 has ended | of s-1, missing or corrupt | it is lost | helps nobody with s-1 |
 //! | s-1 is closed | of s-1 | no replica needs it, or its history was taken from others | does not open it; exports its account and removes it, unless `keep_logs` |
 //! | s is the last | of a later session | the store is older than it was | is refused: status 5 |
+//! | s comes next, or runs | any | `last_session` is below s-1, or s runs and it is s-1 | is refused: status 3 |
+//! | s comes next | none, or its beginning | `last_session` is s-1: the cluster ends | opens no log |
 //! | corrupt, newer, or of another replica or cluster | any | | is refused by name: status 5 |
 //! | in use | any | another process has the replica | is refused: status 4 |
 
 use std::fs::{File, OpenOptions};
 use std::path::{Path, PathBuf};
 
-use themis_store::{Error, History, Identity, PublicKeys, Store};
+use themis_store::{Before, Error, History, Identity, PublicKeys, State, Store};
 
 use crate::exit::{Exit, Failure};
 use crate::session_logs::SessionLogs;
@@ -88,6 +90,7 @@ pub fn store_failure(path: &Path, error: &Error) -> Failure {
         | Error::OutOfTurn { .. }
         | Error::OtherEnd(_)
         | Error::OtherDigest(_)
+        | Error::OtherList
         | Error::Twice(_)
         | Error::NeverLost => Exit::LogRefused,
     };
@@ -101,10 +104,12 @@ pub fn create(
     session: u32,
     setting: &str,
     keys: &PublicKeys,
+    before: Option<&Before>,
 ) -> Result<(), Failure> {
     let _lock = Lock::take(folder, owner.replica)?;
     let path = without_logs(folder, owner)?;
-    Store::create(&path, owner, session, setting, keys).map_err(|it| store_failure(&path, &it))
+    let made = Store::create(&path, owner, session, setting, keys, before);
+    made.map_err(|it| store_failure(&path, &it))
 }
 
 /// Makes the store of a replica that has lost its first one.
@@ -114,10 +119,11 @@ pub fn create_again(
     session: u32,
     setting: &str,
     keys: &PublicKeys,
+    before: Option<&Before>,
 ) -> Result<(), Failure> {
     let _lock = Lock::take(folder, owner.replica)?;
     let path = without_logs(folder, owner)?;
-    let made = Store::create_again(&path, owner, session, setting, keys);
+    let made = Store::create_again(&path, owner, session, setting, keys, before);
     made.map_err(|it| store_failure(&path, &it))
 }
 
@@ -155,6 +161,26 @@ pub fn open(folder: &Path, owner: &Identity, is_synced: bool) -> Result<Found, F
         return Err(Failure::new(Exit::LogRefused, text));
     }
     Ok(Found { store, history, logs, lock })
+}
+
+impl Found {
+    /// Refuses where a session was opened after the last one that the operator wants: the others may
+    /// have gone on with it, and what arrived there would be lost.
+    pub fn refuse_later(&self, last: u32, config: &Path) -> Result<(), Failure> {
+        let session = &self.history.session;
+        let next = session.number + u32::from(session.state == State::Opened);
+        if next > last.saturating_add(1) {
+            let text = format!("last_session is {last}, but session {} was opened here", next - 1);
+            return Err(Failure::new(Exit::Config, format!("{}: {text}", config.display())));
+        }
+        let has_log = self.logs.sessions()?.contains(&next);
+        if next == last.saturating_add(1) && has_log && !self.logs.has_only_begun(next)? {
+            let text = "it has records, so the store is older than it was";
+            let path = self.logs.path(next);
+            return Err(Failure::new(Exit::LogRefused, format!("{}: {text}", path.display())));
+        }
+        Ok(())
+    }
 }
 
 #[cfg(test)]

@@ -20,7 +20,7 @@ impl Folder {
         let name = format!("themisd-recovery-{}-{name}", std::process::id());
         let folder = Folder(std::env::temp_dir().join(name));
         fs::create_dir_all(&folder.0).unwrap();
-        Store::create(&store_path(&folder.0, 2), &owner(), 0, "", &keys()).unwrap();
+        Store::create(&store_path(&folder.0, 2), &owner(), 0, "", &keys(), None).unwrap();
         folder
     }
 
@@ -236,6 +236,36 @@ fn the_session_before() {
     assert_eq!(found.logs.sessions().unwrap(), [0, 1]);
     found.logs.remove(0).unwrap();
     assert_eq!(found.logs.sessions().unwrap(), [1]);
+}
+
+/// The operator ends the cluster with a session: before any later one was opened, and not after that.
+#[test]
+fn a_last_session_that_comes_too_late() {
+    let folder = Folder::new("last");
+    let refused = |last: u32| {
+        let done = folder.open().unwrap().refuse_later(last, Path::new("2.toml"));
+        done.err().map(|it| (it.exit, it.text))
+    };
+    let late = |last: u32, opened: u32| {
+        let text = format!("last_session is {last}, but session {opened} was opened here");
+        Some((Exit::Config, format!("2.toml: {text}")))
+    };
+    assert_eq!(refused(0), None);
+    run(&mut folder.open().unwrap());
+    assert_eq!(refused(0), None);
+    end(&mut folder.open().unwrap().store, false);
+    assert_eq!(refused(0), None);
+    fs::write(folder.log(1), HEADER).unwrap(); // made ahead, and never opened
+    assert_eq!(refused(0), None);
+    fs::write(folder.log(1), RECORD).unwrap();
+    let (exit, text) = refused(0).unwrap();
+    assert_eq!(exit, Exit::LogRefused);
+    assert!(text.ends_with("it has records, so the store is older than it was"), "{text}");
+    fs::remove_file(folder.log(1)).unwrap();
+    run(&mut folder.open().unwrap());
+    assert_eq!((refused(0), refused(1)), (late(0, 1), None));
+    end(&mut folder.open().unwrap().store, false);
+    assert_eq!((refused(0), refused(1), refused(u32::MAX)), (late(0, 1), None, None));
 }
 
 #[test]

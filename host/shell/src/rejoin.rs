@@ -3,7 +3,7 @@
 //!
 //! The new store is marked as made again. Its replica seals in no session in which it may have sealed
 //! before: it asks the others in which session they are, takes the history from them, and takes part
-//! again once a key of its own is agreed for a later session (docs/SERVICE.md, rule 11). So nothing is
+//! again once a key of its own is agreed for a later session (docs/SESSIONS.md, rule 11). So nothing is
 //! made where a store or a log of a session is there. With a new master secret no leaf of the old one
 //! is used again in any case.
 
@@ -17,6 +17,7 @@ use crate::init::{failed, refuse_taken};
 use crate::join::config_of;
 use crate::keeper::own_key;
 use crate::new_file::{write_new, Readers};
+use crate::predecessor::Predecessor;
 use crate::recovery::{self, store_path};
 use crate::session_logs::SessionLogs;
 use crate::sessions_worker::owner;
@@ -25,10 +26,14 @@ use crate::sessions_worker::owner;
 #[derive(Args, Clone, Debug)]
 pub struct Wanted {
     /// The folder with the replica's secret, its TLS key, and what all replicas share.
-    folder: PathBuf,
+    pub folder: PathBuf,
     /// The number of this replica.
     #[arg(long)]
-    replica: u32,
+    pub replica: u32,
+    /// Where the cluster continues another one: a store of any replica, of that one or of this one,
+    /// from which the list of that one is taken.
+    #[arg(long, value_name = "STORE")]
+    pub after: Option<PathBuf>,
 }
 
 /// Makes the store, and the configuration where there is none.
@@ -48,15 +53,31 @@ pub fn make(wanted: &Wanted) -> Result<(), Failure> {
         return Err(Failure::new(Exit::Usage, format!("{}: {text}", config.display())));
     }
     let whose = whose_secret(&setup)?;
+    let before = list_before(wanted, &setup)?;
     if let Some(text) = default {
         write_new(&config, text, Readers::All).map_err(|it| failed(&config, &it))?;
     }
     let keys = setup.public_keys.iter().copied().map(Some).collect();
-    let (owner, line) = (owner(&setup), setup.setting_line());
-    recovery::create_again(&setup.folder, &owner, setup.cluster.session, &line, &keys)?;
+    let (owner, line, first) = (owner(&setup), setup.setting_line(), setup.cluster.session);
+    let before = before.as_ref().map(Predecessor::before);
+    recovery::create_again(&setup.folder, &owner, first, &line, &keys, before.as_ref())?;
     let made = store_path(&setup.folder, setup.me());
     println!("made {} for cluster {}, with {whose}", made.display(), hex(&setup.session_digest()));
     Ok(())
+}
+
+/// A store with the list that the cluster continues, if it continues one.
+fn list_before(wanted: &Wanted, setup: &Setup) -> Result<Option<Predecessor>, Failure> {
+    let refused =
+        |text: &str| Err(Failure::new(Exit::Usage, format!("{}: {text}", setup.shared.display())));
+    match (&setup.cluster.after, &wanted.after) {
+        (None, None) => Ok(None),
+        (Some(after), Some(store)) => Predecessor::with_list(store, after).map(Some),
+        (Some(_), None) => {
+            refused("this cluster continues another one: name a store that has its list (--after)")
+        }
+        (None, Some(_)) => refused("this cluster continues no other one: leave out --after"),
+    }
 }
 
 /// Refuses where a store or a log is there, whole or in part: a WAL that was left over would be read
@@ -98,7 +119,7 @@ mod tests {
     use crate::join::played::Five;
 
     fn rejoin(folder: &Path, replica: u32) -> Result<(), Failure> {
-        make(&Wanted { folder: folder.to_path_buf(), replica })
+        make(&Wanted { folder: folder.to_path_buf(), replica, after: None })
     }
 
     /// How it is refused, and what the text ends with.

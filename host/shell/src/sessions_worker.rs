@@ -125,6 +125,7 @@ impl<C: Conduct> SessionsWorker<C> {
                 role: setup.role()?,
                 master: setup.master()?,
                 first: history.session.number,
+                seal_threads: setup.seal_threads(),
                 conduct: conduct.clone(),
             },
             ahead: None,
@@ -168,7 +169,11 @@ impl<C: Conduct> SessionsWorker<C> {
 
 /// Opens what is durable of a replica over sessions. `join` has made its store.
 pub fn recover(setup: &Setup) -> Result<Found, Failure> {
-    recovery::open(&setup.folder, &owner(setup), setup.config.fsync)
+    let found = recovery::open(&setup.folder, &owner(setup), setup.config.fsync)?;
+    if let Some(last) = setup.config.last_session {
+        found.refuse_later(last, &setup.path)?;
+    }
+    Ok(found)
 }
 
 impl<C: Conduct> Working<C> {

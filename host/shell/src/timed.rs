@@ -6,6 +6,8 @@ use themis::{Arrivals, Error, Held, Message, Receipt, Replica, Standing, Taken};
 use themis_engine::core::{Core, Delivered, Desk, Event, Turn};
 use themis_engine::tx::Tx;
 
+use crate::seal_threads::SealThreads;
+
 /// How often something was done, and how long that took.
 #[derive(Clone, Copy, Debug, Default)]
 pub struct Spent {
@@ -34,6 +36,8 @@ impl Spent {
 /// A replica of the library, and the time of its calls by kind.
 pub struct Timed {
     replica: Replica,
+    seals: SealThreads,
+    verify: Spent,
     prepare: Spent,
     foresee: Spent,
     turn: Spent,
@@ -45,11 +49,13 @@ pub struct Timed {
 }
 
 impl Timed {
-    /// A replica whose calls took no time yet.
-    pub fn new(replica: Replica) -> Timed {
+    /// A replica whose calls took no time yet, with the threads that check seals for it.
+    pub fn new(replica: Replica, seals: SealThreads) -> Timed {
         let none = Spent::default();
         Timed {
             replica,
+            seals,
+            verify: none,
             prepare: none,
             foresee: none,
             turn: none,
@@ -62,8 +68,9 @@ impl Timed {
     }
 
     /// The times, with their names in the status.
-    pub fn all(&self) -> [(&'static str, Spent); 8] {
+    pub fn all(&self) -> [(&'static str, Spent); 9] {
         [
+            ("verify", self.verify),
             ("prepare", self.prepare),
             ("foresee", self.foresee),
             ("turn", self.turn),
@@ -73,6 +80,20 @@ impl Timed {
             ("arrive", self.arrive),
             ("gives", self.gives),
         ]
+    }
+
+    /// The threads that check seals.
+    #[cfg(test)]
+    pub fn seals(&mut self) -> &mut SealThreads {
+        &mut self.seals
+    }
+
+    /// Lets threads check the seals of a message that has enough of them.
+    fn verify(&mut self, it: &Delivered) -> Result<(), Error> {
+        if !self.seals.are_for(it) {
+            return Ok(());
+        }
+        self.verify.time(|| self.seals.check(&mut self.replica, it))
     }
 }
 
@@ -84,10 +105,14 @@ impl Core for Timed {
     }
 
     fn prepare(&mut self, event: &Event) -> Result<Vec<u8>, Error> {
+        if let Event::Delivered(it) = event {
+            self.verify(it)?;
+        }
         self.prepare.time(|| self.replica.prepare(event))
     }
 
     fn would_change(&mut self, it: &Delivered) -> Result<bool, Error> {
+        self.verify(it)?;
         self.foresee.time(|| Core::would_change(&mut self.replica, it))
     }
 

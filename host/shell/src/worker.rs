@@ -25,6 +25,7 @@ use crate::metrics::{fault_of, page_of, Counted};
 use crate::observed::Observed;
 use crate::picture::{picture_of, Seen};
 use crate::receipt_log::ReceiptLog;
+use crate::seal_threads::SealThreads;
 use crate::timed::{Spent, Timed};
 
 /// Requests that are taken before turns are made: a flood of them stops no turn.
@@ -79,7 +80,8 @@ impl<C: Conduct> Worker<C> {
         let restored =
             Restored { log: opened.log, header, settled, carried, ..Restored::default() };
         let (place, options) = (setup.place(), setup.options());
-        let core = conduct.core(Timed::new(replica), &opened)?;
+        let seals = SealThreads::start(setup.seal_threads(), &opened.role, opened.public_keys)?;
+        let core = conduct.core(Timed::new(replica, seals), &opened)?;
         let engine = Engine::open(place, options, core, restored, Time::default())?;
         let receipts = setup.receipts_path().map(|it| ReceiptLog::open(&it)).transpose()?;
         let mut worker = Worker {

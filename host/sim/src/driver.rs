@@ -2,8 +2,10 @@
 
 use bytes::Bytes;
 use themis::{Error, Tx};
+use themis_engine::core::Core;
 use themis_engine::frame::{Frame, HEAD_BYTES};
 use themis_engine::sessions::frames::SessionFrame;
+use themis_engine::sessions::running::Session;
 use themis_engine::sessions::{self, Group, Sessions};
 use themis_engine::{Engine, Input, Output, Pending, Sizes, Status, Ticket, Time};
 
@@ -55,7 +57,8 @@ pub fn inner_frame(frame: &Bytes, is_many: bool) -> Option<Frame> {
         | SessionFrame::Part(_)
         | SessionFrame::AskSession(_)
         | SessionFrame::Session { .. }
-        | SessionFrame::Out(_) => None,
+        | SessionFrame::Out(_)
+        | SessionFrame::Ended(_) => None,
     }
 }
 
@@ -147,6 +150,16 @@ impl Driver {
         }
     }
 
+    /// Its views: in the session that runs, and in the one before while it helps others there.
+    pub fn views(&mut self) -> Vec<(u32, u32)> {
+        let running = self.engine().and_then(reached);
+        let before = match self {
+            Driver::One(_) => None,
+            Driver::Many(it) => it.helping().and_then(reached),
+        };
+        running.into_iter().chain(before).collect()
+    }
+
     /// Where the engine of the session that runs stands.
     pub fn status(&self, now: Time) -> Option<Status> {
         match self {
@@ -159,6 +172,12 @@ impl Driver {
     pub fn sizes(&mut self) -> Sizes {
         self.engine().map(|it| it.sizes()).unwrap_or_default()
     }
+}
+
+/// The session of an engine, and its view there.
+pub fn reached(engine: &mut Engine<Played>) -> Option<(u32, u32)> {
+    let session = engine.session().map_or(0, Session::number);
+    Some((session, engine.core_mut().views().ok()?.0))
 }
 
 fn of_one(output: Output) -> sessions::Output {

@@ -51,7 +51,7 @@ impl World {
     /// A fault of the plan ends.
     pub(crate) fn heal(&mut self, number: usize) -> Result<(), Violation> {
         let Fault { replica, kind, .. } = self.plan.faults[number];
-        let sync = self.plan.sync;
+        let sync = self.plan.sync_of(replica);
         let node = &mut self.nodes[replica as usize];
         match kind {
             FaultKind::Full => node.disk.is_full = false,

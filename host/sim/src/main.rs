@@ -9,8 +9,10 @@
 
 mod chain;
 mod change;
+mod checks;
 mod clients;
 mod clock;
+mod delivery;
 mod disk;
 mod driver;
 mod faults;
@@ -26,10 +28,12 @@ mod queue;
 mod receipts;
 mod run;
 mod shrink;
+mod starts;
 mod store;
 mod sys;
 mod tapped;
 mod trace;
+mod views;
 mod world;
 
 use std::io::Result;
@@ -37,10 +41,10 @@ use std::ops::Range;
 use std::process::ExitCode;
 use std::time::{Duration, Instant};
 
-use clap::Parser;
+use clap::{Parser, ValueEnum};
 use themis_deeds::Deed;
 
-use crate::plan::{Edits, Plan};
+use crate::plan::{Edits, Plan, Scenario};
 use crate::run::{Mode, Report};
 use crate::shrink::shrink;
 
@@ -102,6 +106,9 @@ struct Arguments {
     /// To check a seal takes a replica that many microseconds of virtual time.
     #[arg(long, default_value_t = 0)]
     seal_us: u32,
+    /// One session alone: the run has this scenario, and not one by chance.
+    #[arg(long)]
+    scenario: Option<Scenario>,
     /// Runs no seeds. Prints latency and throughput with these delays between any two replicas, in
     /// milliseconds, where nothing is faulty.
     #[arg(long, value_delimiter = ',')]
@@ -222,6 +229,7 @@ impl Arguments {
             long: self.long,
             seal_cost: self.seal_us,
             lose_store: self.lose_store,
+            scenario: self.scenario,
         }
     }
 
@@ -270,6 +278,9 @@ fn line_of(seed: u64, edits: &Edits) -> String {
     if edits.lose_store {
         out += " --lose-store";
     }
+    if let Some(name) = edits.scenario.and_then(|it| it.to_possible_value()) {
+        out += &format!(" --scenario {}", name.get_name());
+    }
     if let Some(txs) = edits.txs {
         out += &format!(" --txs {txs}");
     }
@@ -316,7 +327,7 @@ fn print_total(total: &Total, took: Duration) {
         "{} runs, {} failed; {} sessions, {} of them taken from others, {} transactions carried over; {} views, \
          {} transactions final, {} runs audited; \
          {} received by all, {} pairs jump in {} runs, {} runs gave way; \
-         {:.0?} of their own time in {:.1?}; {:.2?} of a processor for each",
+         {:.0?} of their own time in {:.1?}; {:.0?} of a processor in all, {:.2?} for each",
         total.runs,
         total.failed.len(),
         total.sessions,
@@ -331,6 +342,7 @@ fn print_total(total: &Total, took: Duration) {
         total.with_given,
         total.virtual_time,
         took,
+        total.used,
         total.used / u32::try_from(total.runs.max(1)).unwrap_or(u32::MAX),
     );
 }

@@ -32,6 +32,12 @@ impl Link {
         Link { latency, jitter, last: start, epoch: 0, up_at: start, cut_until: start }
     }
 
+    /// It is longer by so much, and varies the more.
+    pub fn lengthen(&mut self, by: Duration) {
+        self.latency += by;
+        self.jitter += by / 2;
+    }
+
     /// The greatest time that a frame takes while the link is up.
     pub fn longest(&self) -> Duration {
         self.latency + self.jitter

@@ -18,7 +18,7 @@ use themis_engine::{Engine, Restored, Time};
 use crate::change::{Request, Step};
 use crate::clock::Clock;
 use crate::disk::Disk;
-use crate::driver::{Driver, Prepared};
+use crate::driver::{reached, Driver, Prepared};
 use crate::keys::{public_keys, secret, HEIGHT};
 use crate::opened;
 use crate::plan::{FaultKind, Plan};
@@ -106,6 +106,8 @@ pub struct Node {
     pub slots: Vec<u32>,
     /// Frames that wait for a slot, by peer.
     pub blocked: Vec<VecDeque<Bytes>>,
+    /// The most that arrived and was not final, at any time.
+    pub most_pending: usize,
     /// Tickets of submissions, with the submission's number.
     pub tickets: HashMap<u64, usize>,
     role: Role,
@@ -128,7 +130,7 @@ impl Node {
             process: None,
             incarnation: 0,
             down_until: Time::default(),
-            disk: Disk { sync: plan.sync, ..Disk::default() },
+            disk: Disk { sync: plan.sync_of(me), ..Disk::default() },
             clock,
             journals: BTreeMap::new(),
             store: plan
@@ -146,6 +148,7 @@ impl Node {
             rot: None,
             slots: vec![SLOTS; n as usize],
             blocked: (0..n).map(made).collect(),
+            most_pending: 0,
             tickets: HashMap::new(),
             role,
             free_views: plan.free_views,
@@ -163,7 +166,12 @@ impl Node {
     /// The view of the session that it runs.
     pub fn views(&mut self) -> u32 {
         let engine = self.process.as_mut().and_then(|it| it.driver.engine());
-        engine.and_then(|it| it.core_mut().views().ok()).map_or(0, |(view, _)| view)
+        engine.and_then(reached).map_or(0, |(_, view)| view)
+    }
+
+    /// Whether it asked for a view since that was asked.
+    pub fn has_ticked(&mut self, session: u32) -> bool {
+        std::mem::take(&mut self.journal(session).borrow_mut().has_ticked)
     }
 
     /// What it did in a session.
@@ -274,8 +282,13 @@ impl Node {
         let journal = self.journal(session);
         let (replica, _) = self.opened(session, &self.log(session)[..acted])?;
         let mut core = Tapped::new(self.place.me, replica, journal);
-        for event in records(self.log(session), acted).filter_map(event_of) {
-            core.prepare(&event)?;
+        // They are of one group, which was prepared before the turn on its first event. Prepared one by
+        // one, an event that repeats another one would have no record.
+        let events: Vec<Event> = records(self.log(session), acted).filter_map(event_of).collect();
+        for event in &events {
+            core.prepare(event)?;
+        }
+        for _ in &events {
             match Core::act(&mut core)? {
                 Turn::Made(_) => drop(core.sends()?),
                 Turn::Again => return Err(Violation("a logged event has no record".to_owned())),

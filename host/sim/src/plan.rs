@@ -1,8 +1,10 @@
 //! The plan of a run: all that a seed draws.
 
 mod faults;
+mod scenarios;
 mod traffic;
 
+use std::collections::BTreeSet;
 use std::time::Duration;
 
 use rand::seq::SliceRandom;
@@ -12,6 +14,7 @@ use themis_deeds::Deed;
 use themis_engine::tx::Tx;
 
 use crate::change::Step;
+pub use scenarios::Scenario;
 
 /// What may go wrong, at a moment in milliseconds.
 #[derive(Clone, Copy, Debug, PartialEq)]
@@ -58,10 +61,12 @@ pub enum FaultKind {
 }
 
 /// What a faulty replica may do where sessions follow one another.
-const DEEDS_OF_MANY: [Deed; 9] = [
+const DEEDS_OF_MANY: [Deed; 11] = [
     Deed::EarlyMarker,
     Deed::TwoKeys,
     Deed::FalseHistory,
+    Deed::OthersKeys,
+    Deed::Boast,
     Deed::Forge,
     Deed::Half,
     Deed::Mute,
@@ -72,6 +77,8 @@ const DEEDS_OF_MANY: [Deed; 9] = [
 
 /// In milliseconds. A replica that is away for longer may miss a change of session.
 const LONGEST_SHORT_FAULT: u32 = 500;
+/// What a sync of a slow disk takes besides.
+const SLOW_SYNC: Duration = Duration::from_millis(15);
 /// Submits to a replica that is alone.
 const LONE_CLIENT: u32 = 98;
 /// Uses each number for two transactions, while a replica is alone: one for it, one for the others.
@@ -136,6 +143,10 @@ pub struct Plan {
     pub is_even: bool,
     /// What it costs a replica to check a seal: virtual time in which it does nothing else.
     pub seal_cost: Duration,
+    /// A replica that is far from all others.
+    pub far: Option<u32>,
+    /// A replica with a slow disk.
+    pub slow: Option<u32>,
 }
 
 /// What is left of the plan of a seed, to make a failure smaller.
@@ -161,6 +172,8 @@ pub struct Edits {
     pub seal_cost: u32,
     /// A replica loses its store, and none is away otherwise or faulty.
     pub lose_store: bool,
+    /// The scenario, and not one by chance.
+    pub scenario: Option<Scenario>,
 }
 
 impl Plan {
@@ -189,6 +202,8 @@ impl Plan {
             is_long,
             is_even: false,
             seal_cost: Duration::from_micros(u64::from(edits.seal_cost)),
+            far: None,
+            slow: None,
         };
         if plan.is_many() {
             // A quarter of the views has to be enough to make a marker final.
@@ -204,6 +219,7 @@ impl Plan {
             plan.draw_deeds(&mut rng);
             plan.draw_faults(&mut rng);
             plan.draw_submissions(&mut rng);
+            plan.draw_scenario(edits.scenario);
         }
         plan.edit(edits);
         plan
@@ -227,6 +243,20 @@ impl Plan {
     /// Whether nothing is faulty.
     pub fn is_calm(&self) -> bool {
         self.faults.is_empty() && self.deeds.is_empty()
+    }
+
+    /// At how many moments something is submitted.
+    pub fn moments(&self) -> usize {
+        self.submissions.iter().map(|it| it.at).collect::<BTreeSet<_>>().len()
+    }
+
+    /// How long syncs of a replica take.
+    pub fn sync_of(&self, replica: u32) -> Duration {
+        if self.slow == Some(replica) {
+            self.sync + SLOW_SYNC
+        } else {
+            self.sync
+        }
     }
 
     /// How many transactions are submitted.

@@ -8,6 +8,8 @@ use std::collections::{HashMap, HashSet};
 use themis_engine::tx::Tx;
 use themis_engine::Note;
 
+use crate::node::Violation;
+
 /// What one replica noted of a transaction, by the number of the note.
 #[derive(Clone, Copy, Debug, Default)]
 struct Noted {
@@ -27,6 +29,8 @@ pub struct Receipts {
     of: HashMap<Tx, Vec<Noted>>,
     n: usize,
     count: u64,
+    /// By replica: what it heard since the last frame of receipts came, and of whom.
+    heard: Vec<Vec<(u32, Tx)>>,
 }
 
 /// When each honest replica received a transaction, and when it had heard of it from all others.
@@ -50,7 +54,28 @@ impl Receipts {
     /// Nothing was received.
     pub fn new(honest: impl Iterator<Item = u32>, n: u32) -> Receipts {
         let honest = honest.fold(0, |mask, it| mask | 1 << it);
-        Receipts { honest, of: HashMap::new(), n: n as usize, count: 0 }
+        let heard = vec![Vec::new(); n as usize];
+        Receipts { honest, of: HashMap::new(), n: n as usize, count: 0, heard }
+    }
+
+    /// A frame of receipts comes to a replica.
+    pub fn frame_comes(&mut self, at: u32) {
+        self.heard[at as usize].clear();
+    }
+
+    /// A replica heard what a peer told in the last frame in that order. Where more was heard, its
+    /// start has ended with it, up to which earlier frames waited.
+    pub fn check_told(&self, at: u32, peer: u32, told: &[Tx]) -> Result<(), Violation> {
+        let heard = &self.heard[at as usize];
+        if heard.len() > told.len() || heard.iter().any(|(by, _)| *by != peer) {
+            return Ok(());
+        }
+        let mut left = told.iter();
+        if heard.iter().all(|(_, tx)| left.any(|it| it == tx)) {
+            Ok(())
+        } else {
+            Err(Violation(format!("replica {at} hears in another order what {peer} tells")))
+        }
     }
 
     /// A replica received a transaction, or heard that another one did.
@@ -61,7 +86,10 @@ impl Receipts {
         self.count += 1;
         let (tx, by) = match note {
             Note::Received(tx) => (tx, at),
-            Note::Heard(peer, tx) => (tx, peer),
+            Note::Heard(peer, tx) => {
+                self.heard[at as usize].push((peer, tx));
+                (tx, peer)
+            }
         };
         let places = self.of.entry(tx).or_insert_with(|| vec![Noted::default(); self.n]);
         let noted = &mut places[at as usize];
@@ -194,6 +222,22 @@ mod tests {
         it.note(1, Note::Received(tx(2))); // again, so its order is not known
         assert!(it.jumps(&batches, |_, _| true).is_empty());
         assert_eq!(it.common(), 1);
+    }
+
+    #[test]
+    fn what_a_peer_tells_is_heard_in_its_order() {
+        let told = [tx(1), tx(2), tx(3)];
+        let is_fine = |heard: &[(u32, u32)]| {
+            let mut it = Receipts::new(0..2, 3);
+            it.note(0, Note::Heard(1, tx(3))); // earlier
+            it.frame_comes(0);
+            heard.iter().for_each(|(peer, number)| it.note(0, Note::Heard(*peer, tx(*number))));
+            it.check_told(0, 1, &told).is_ok()
+        };
+        assert!(is_fine(&[(1, 1), (1, 2), (1, 3)]));
+        assert!(is_fine(&[(1, 1), (1, 3)])); // there was no room for one
+        assert!(!is_fine(&[(1, 3), (1, 1)]));
+        assert!(is_fine(&[(2, 3), (1, 1), (1, 2)])); // what waited at a start
     }
 
     #[test]

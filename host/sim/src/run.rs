@@ -1,26 +1,21 @@
-//! One run of a plan, and its checks.
+//! One run of a plan: what happens until all is final, and what it came to.
 
-use std::cell::RefCell;
 use std::collections::HashSet;
-use std::rc::Rc;
 use std::time::Duration;
 
 use serde::{Deserialize, Serialize};
-use themis::{audit, Finding, Run};
-use themis_engine::core::Core;
 use themis_engine::tx::Tx;
-use themis_engine::{Count, Time};
+use themis_engine::Time;
 
-use crate::chain::committed;
+use crate::checks::{
+    check_agreement, check_audit, check_bounds, check_chain, check_guards, check_idle,
+    check_leaves, check_ticks, ticks_of,
+};
 use crate::driver::Driver;
-use crate::keys::{public_keys, HEIGHT};
 use crate::many;
 use crate::node::{Node, Violation};
 use crate::plan::{Plan, Submission};
-use crate::receipts::{is_promised, proposals};
 use crate::store::Durable;
-use crate::tapped::Journal;
-use crate::trace::{trace_of, Account};
 use crate::world::{at_ms, World};
 
 /// After faults have ended all has to be final within so long.
@@ -31,24 +26,7 @@ const CALM_PATIENCE: Duration = Duration::from_secs(3);
 const IN_A_VIEW: u32 = 60;
 /// No view is shorter.
 const MIN_VIEW: Duration = Duration::from_millis(30);
-/// One wakes an idle cluster. More, but for those to a view that others have reached, are a timeout
-/// that is too short, or a message that was lost.
-const MAX_CALM_TICKS: u64 = 2;
 const TRACE_EVERY: Duration = Duration::from_millis(200);
-/// After all is final nothing more happens for so long.
-const IDLE: Duration = Duration::from_secs(3);
-/// Views that may still follow: those that show the others what is final.
-const MAX_IDLE_VIEWS: u32 = 8;
-/// Bounds on what an engine holds.
-const MAX_INBOX: usize = 16 * 64;
-/// Of clients, of each peer, and of blocks.
-const MAX_QUEUE: usize = 16_384 + 16 * 4096;
-const MAX_PENDING: usize = 2_000;
-/// Seals of refused messages of one peer: of each start, and in each second.
-const MAX_WASTED: usize = 4000;
-const MAX_WASTED_RATE: f64 = 610.0;
-/// Bytes of a log: for each view, and for each block that a peer may give.
-const MAX_VIEW_BYTES: usize = 160 << 10;
 
 /// What a run came to.
 #[derive(Clone, Debug, Default, Serialize, Deserialize)]
@@ -164,32 +142,6 @@ fn sessions_without_part(node: &Node) -> u32 {
     let has_log = |session: &u32| node.journals.contains_key(session);
     let without = (0..store.session()).filter(|it| !has_log(it)).count();
     without as u32 + store.closed
-}
-
-fn ticks_of(node: &Node) -> u64 {
-    let Some(process) = &node.process else { return 0 };
-    let status = process.driver.status(process.wake);
-    let counts = status.map_or_else(Vec::new, |it| it.counts);
-    let count = |name| counts.iter().find(|it| it.name == name).map_or(0, |it| it.value);
-    count("ticks") - count("joins")
-}
-
-/// Where nothing is faulty, nobody gives up a view.
-fn check_ticks(plan: &Plan, ticks: u64) -> Result<(), Violation> {
-    if plan.is_calm() && ticks > MAX_CALM_TICKS {
-        return Err(Violation(format!("{ticks} ticks although nothing is faulty")));
-    }
-    Ok(())
-}
-
-/// Where nothing is faulty, no view fails: each up to the commit has a committed block.
-fn check_views(plan: &Plan, blocks: usize, commit: u32) -> Result<(), Violation> {
-    if plan.is_calm() && blocks < commit as usize {
-        let text =
-            format!("only {blocks} of {commit} views have a block although nothing is faulty");
-        return Err(Violation(text));
-    }
-    Ok(())
 }
 
 /// The moment from which on there are no faults and submissions.
@@ -308,149 +260,6 @@ fn stuck(world: &mut World, wanted: &HashSet<Tx>) -> Violation {
         );
     }
     Violation(text)
-}
-
-/// While nothing waits no views are used, unless a faulty replica keeps the others busy.
-fn check_idle(world: &mut World) -> Result<(), Violation> {
-    if world.plan.honest().count() < world.plan.n as usize {
-        return Ok(());
-    }
-    let views = |world: &mut World| world.nodes.iter_mut().map(Node::views).max().unwrap_or(0);
-    let (before, until) = (views(world), world.now + IDLE);
-    while world.now < until && world.step()? {}
-    let used = views(world) - before;
-    if used <= MAX_IDLE_VIEWS {
-        Ok(())
-    } else {
-        Err(Violation(format!("{used} views are used while nothing waits")))
-    }
-}
-
-fn check_agreement(world: &World) -> Result<(), Violation> {
-    for one in honest(world) {
-        for other in honest(world) {
-            let count = one.batches.len().min(other.batches.len());
-            if one.batches[..count] != other.batches[..count] {
-                let (a, b) = (one.place.me, other.place.me);
-                return Err(Violation(format!("replicas {a} and {b} disagree")));
-            }
-        }
-    }
-    Ok(())
-}
-
-fn check_leaves(node: &Node) -> Result<(), Violation> {
-    let reused = |(session, journal): (&u32, &Rc<RefCell<Journal>>)| {
-        journal.borrow().reused.map(|leaf| (*session, leaf))
-    };
-    match node.journals.iter().find_map(reused) {
-        Some((session, leaf)) => Err(Violation(format!(
-            "replica {} seals twice with leaf {leaf} of session {session}",
-            node.place.me
-        ))),
-        None => Ok(()),
-    }
-}
-
-fn check_bounds(node: &mut Node, plan: &Plan) -> Result<(), Violation> {
-    let log = node.disk.logs.values().map(Vec::len).max().unwrap_or(0);
-    let Some(process) = &mut node.process else { return Ok(()) };
-    let sizes = process.driver.sizes();
-    let is_within = sizes.inbox <= MAX_INBOX
-        && sizes.queue <= MAX_QUEUE
-        && sizes.pending <= MAX_PENDING
-        && sizes.given <= (plan.n - 1) * plan.views + 64
-        && log <= MAX_VIEW_BYTES * (plan.views + sizes.given.max(plan.views)) as usize;
-    if is_within {
-        Ok(())
-    } else {
-        Err(Violation(format!("replica {} holds {sizes:?}, a log of {log}", node.place.me)))
-    }
-}
-
-/// What a faulty peer makes the core check for nothing is bounded, and an honest one sends nothing that
-/// guards take for the work of a faulty one.
-fn check_guards(node: &Node, world: &World) -> Result<(), Violation> {
-    let seconds = world.now.since(Time::default()).as_secs_f64();
-    let most = (node.incarnation as usize + 1) * MAX_WASTED + (seconds * MAX_WASTED_RATE) as usize;
-    let me = node.place.me;
-    for journal in node.journals.values() {
-        for (peer, seals) in journal.borrow().wasted.iter().filter(|it| *it.0 != me) {
-            if *seals > most {
-                let text = format!("replica {me} checks {seals} seals of {peer} in vain");
-                return Err(Violation(text));
-            }
-        }
-    }
-    let Some(process) = &node.process else { return Ok(()) };
-    let counts = process.driver.status(process.wake).map_or_else(Vec::new, |it| it.counts);
-    let is_wrong = |it: &&Count| {
-        it.name == "unfit" && it.value > 0 && it.peer.is_some_and(|it| world.plan.is_honest(it))
-    };
-    match counts.iter().find(is_wrong) {
-        Some(it) => Err(Violation(format!("replica {me} drops what is honest: {it}"))),
-        None => Ok(()),
-    }
-}
-
-/// The committed blocks: no view failed for nothing, and no transaction passes another that every
-/// honest replica received before it, and had heard of from all honest ones. Only one that was given
-/// way may.
-fn check_chain(world: &mut World, report: &mut Report) -> Result<(), Violation> {
-    let longest = world.plan.honest().max_by_key(|it| world.nodes[*it as usize].batches.len());
-    let Some(longest) = longest else { return Ok(()) };
-    let node = &mut world.nodes[longest as usize];
-    let journal = node.journal(0);
-    let Some(process) = &mut node.process else { return Ok(()) };
-    let Some(engine) = process.driver.engine() else { return Ok(()) };
-    let (_, commit) = engine.core_mut().views()?;
-    let chain = committed(&journal.borrow(), commit);
-    check_views(&world.plan, chain.len(), commit)?;
-    let known = proposals((world.plan.n, world.plan.f), &chain, &node.finals);
-    let jumps = world.receipts.jumps(&node.batches, |a, b| is_promised(&known, a, b));
-    (report.jumps, report.common) = (jumps.len(), world.receipts.common());
-    report.given = honest(world).filter_map(given).max().unwrap_or(0);
-    match jumps.first() {
-        Some((a, b)) => Err(Violation(format!(
-            "{} pairs jump: {b:?} over {a:?}; {} were given way",
-            jumps.len(),
-            report.given
-        ))),
-        None => Ok(()),
-    }
-}
-
-fn given(node: &Node) -> Option<usize> {
-    let process = node.process.as_ref()?;
-    Some(process.driver.status(process.wake)?.given)
-}
-
-/// The proved audit of the run.
-fn check_audit(world: &mut World) -> Result<usize, Violation> {
-    let mut ends = Vec::new();
-    for replica in 0..world.plan.n {
-        let node = &mut world.nodes[replica as usize];
-        let engine = node.process.as_mut().and_then(|it| it.driver.engine());
-        ends.push(engine.map(|it| it.core_mut().views()).transpose()?);
-    }
-    let journals: Vec<_> = world.nodes.iter_mut().map(|it| it.journal(0)).collect();
-    let journals: Vec<_> = journals.iter().map(|it| it.borrow()).collect();
-    let accounts: Vec<Option<Account>> = (0..world.plan.n)
-        .map(|it| {
-            let at = it as usize;
-            let ends = ends[at].filter(|_| world.plan.is_honest(it))?;
-            Some(Account { journal: &journals[at], ends, batches: &world.nodes[at].batches })
-        })
-        .collect();
-    let entries = accounts.iter().flatten().map(|it| it.journal.entries.len()).sum();
-    let (n, f, views) = (world.plan.n, world.plan.f, world.plan.views);
-    let keys = public_keys(n);
-    let trace = trace_of(&world.plan, &keys, &accounts);
-    let run = Run { n, f, p: 1, q: 1, views, height: HEIGHT };
-    match audit(&trace, &run, &keys)?.finding {
-        Finding::Lawful => Ok(entries),
-        other => Err(Violation(format!("the audit finds {other:?}"))),
-    }
 }
 
 #[cfg(test)]

@@ -41,6 +41,8 @@ pub struct Journal {
     leaves: HashMap<u32, [u8; 32]>,
     /// A leaf that sealed two statements.
     pub reused: Option<u32>,
+    /// It asked for a view since that was asked.
+    pub has_ticked: bool,
     /// What the core did since that was asked, counted in seals that are checked.
     pub work: u32,
     /// Seals of messages that it refused, by their sender.
@@ -104,7 +106,9 @@ impl Core for Tapped {
 
     fn prepare(&mut self, event: &Event) -> Result<Vec<u8>, Error> {
         let record = self.replica.prepare(event)?;
-        self.journal.borrow_mut().works_on(self.me, event);
+        let mut journal = self.journal.borrow_mut();
+        journal.works_on(self.me, event);
+        journal.has_ticked |= matches!(event, Event::Tick(_));
         self.prepared.push_back((event.clone(), record.clone()));
         Ok(record)
     }

@@ -3,26 +3,26 @@
 use std::collections::HashSet;
 use std::time::Duration;
 
-use bytes::Bytes;
 use rand::{Rng, SeedableRng};
 use rand_chacha::ChaCha8Rng;
 use themis_deeds::EVERY;
-use themis_engine::sessions::frames::in_session;
 use themis_engine::sessions::Output;
 use themis_engine::tx::Tx;
-use themis_engine::Time;
+use themis_engine::{Note, Time};
 
 use crate::change::Request;
 use crate::clock::Clock;
-use crate::driver::inner_frame;
+use crate::driver::Prepared;
 use crate::network::Link;
 use crate::node::{Node, Violation};
 use crate::plan::Plan;
 use crate::queue::{Happening, Queue};
 use crate::receipts::Receipts;
+use crate::starts::Starts;
+use crate::views::Views;
 
-/// A real link drops what is above it.
-const ROOM: usize = 4 << 20;
+/// What the latency of a replica that is far away is at least, in one direction.
+const FAR: Duration = Duration::from_millis(30);
 
 /// A cluster.
 pub struct World {
@@ -34,6 +34,8 @@ pub struct World {
     pub nodes: Vec<Node>,
     /// Who received what.
     pub receipts: Receipts,
+    pub(crate) views: Views,
+    pub(crate) starts: Starts,
     /// What is to happen.
     pub queue: Queue,
     pub(crate) links: Vec<Vec<Link>>,
@@ -71,11 +73,21 @@ impl World {
             let latency = plan.latency.mul_f64(rng.gen_range(0.2..1.0));
             Link::new(latency, plan.latency.mul_f64(rng.gen_range(0.0..0.5)))
         };
-        let links = (0..plan.n).map(|_| (0..plan.n).map(|_| link(&mut rng)).collect()).collect();
+        let mut links: Vec<Vec<Link>> =
+            (0..plan.n).map(|_| (0..plan.n).map(|_| link(&mut rng)).collect()).collect();
+        if let Some(far) = plan.far {
+            let away = |at: usize, to: usize| (at == far as usize) != (to == far as usize);
+            for (at, row) in links.iter_mut().enumerate() {
+                let ends = row.iter_mut().enumerate().filter(|(to, _)| away(at, *to));
+                ends.for_each(|(_, link)| link.lengthen(FAR));
+            }
+        }
         let mut world = World {
             now: Time::default(),
             nodes,
             receipts: Receipts::new(plan.honest(), plan.n),
+            views: Views::new(plan.honest(), plan.n, plan.f),
+            starts: Starts::new(plan.n, plan.f),
             queue: Queue::default(),
             links,
             rng,
@@ -156,6 +168,7 @@ impl World {
             return Ok(());
         }
         node.start(now)?;
+        self.starts.starts(replica, now);
         if node.deeds.is_some() {
             self.queue.put(now + EVERY, replica, node.incarnation, Happening::Deed);
         }
@@ -206,13 +219,12 @@ impl World {
 
     /// Prepares and makes turns, until a write takes its time or nothing waits.
     pub(crate) fn drive(&mut self, replica: u32) -> Result<(), Violation> {
-        loop {
+        while let Some(pending) = self.prepare(replica)? {
             let node = &mut self.nodes[replica as usize];
-            let local = node.clock.local(self.now);
-            let Some(process) = &mut node.process else { return Ok(()) };
-            let Some(pending) = process.driver.prepare(local)? else { break };
             if pending.records().is_empty() {
-                process.driver.durable(pending);
+                if let Some(process) = &mut node.process {
+                    process.driver.durable(pending);
+                }
                 self.make_turns(replica)?;
             } else if let Some(takes) = node.write(pending) {
                 let at = self.now + takes;
@@ -236,6 +248,18 @@ impl World {
         Ok(())
     }
 
+    /// What the engine of a replica prepares next.
+    fn prepare(&mut self, replica: u32) -> Result<Option<Prepared>, Violation> {
+        let node = &mut self.nodes[replica as usize];
+        let local = node.clock.local(self.now);
+        let Some(process) = &mut node.process else { return Ok(None) };
+        let pending = process.driver.prepare(local)?;
+        if pending.as_ref().is_some_and(|it| node.has_ticked(it.session())) {
+            self.views.asks(replica, self.now)?;
+        }
+        Ok(pending)
+    }
+
     fn synced(&mut self, replica: u32) -> Result<(), Violation> {
         if self.nodes[replica as usize].synced()? {
             self.make_turns(replica)?;
@@ -252,13 +276,19 @@ impl World {
                 node.check_acted()?;
                 return self.flush(replica);
             }
+            if let Some(process) = &mut node.process {
+                for (session, view) in process.driver.views() {
+                    self.views.enters(replica, session, view)?;
+                }
+                node.most_pending = node.most_pending.max(process.driver.sizes().pending);
+            }
             self.flush(replica)?;
         }
     }
 
     // ---- what engines ask for
 
-    fn flush(&mut self, replica: u32) -> Result<(), Violation> {
+    pub(crate) fn flush(&mut self, replica: u32) -> Result<(), Violation> {
         let Some(process) = &mut self.nodes[replica as usize].process else { return Ok(()) };
         for output in process.driver.outputs() {
             match output {
@@ -277,7 +307,7 @@ impl World {
                 Output::Freed(peer, count) => self.free(replica, peer, count)?,
                 // What is not there ahead is made when it is needed.
                 Output::Received(_) | Output::OpenAhead(..) => {}
-                Output::Noted(note) => self.receipts.note(replica, note),
+                Output::Noted(note) => self.note(replica, note)?,
                 Output::GrowKey(session) => self.ask(replica, Request::GrowKey(session)),
                 Output::Read(it) => self.ask(replica, Request::Read(it)),
                 Output::Search(it) => self.ask(replica, Request::Search(it)),
@@ -296,93 +326,21 @@ impl World {
         Ok(())
     }
 
+    /// A replica received or heard something. Over sessions it starts again with each of them.
+    fn note(&mut self, replica: u32, note: Note) -> Result<(), Violation> {
+        let is_one = self.plan.is_honest(replica) && !self.plan.is_many();
+        if is_one && matches!(note, Note::Received(_)) {
+            self.starts.receives(replica, self.now)?;
+        }
+        self.receipts.note(replica, note);
+        Ok(())
+    }
+
     /// While clients submit, how long the first replica is without a batch.
     fn note_gap(&mut self, replica: u32) {
         if replica == 0 && self.now < at_ms(self.plan.span) {
             self.gap.1 = self.gap.1.max(self.now.since(self.gap.0));
             self.gap.0 = self.now;
         }
-    }
-
-    fn send_tampered(&mut self, from: u32, to: u32, frame: Bytes) {
-        let is_many = self.plan.is_many();
-        let sent = match &mut self.nodes[from as usize].deeds {
-            Some(deeds) if is_many => deeds.send_of_many(to, frame),
-            Some(deeds) => deeds.send(to, frame),
-            None => Some(frame),
-        };
-        if let Some(frame) = sent {
-            self.send(from, to, frame);
-        }
-    }
-
-    pub(crate) fn send(&mut self, from: u32, to: u32, frame: Bytes) {
-        let link = &mut self.links[from as usize][to as usize];
-        let epoch = link.epoch;
-        if let Some(at) = link.send(self.now, &mut self.rng) {
-            self.queue.put(at, to, 0, Happening::Arrive { from, epoch, frame });
-        }
-    }
-
-    fn arrive(&mut self, from: u32, to: u32, epoch: u32, frame: Bytes) -> Result<(), Violation> {
-        let node = &mut self.nodes[to as usize];
-        if node.process.is_none() || self.links[from as usize][to as usize].epoch != epoch {
-            return Ok(());
-        }
-        if node.slots[from as usize] == 0 {
-            node.blocked[from as usize].push_back(frame);
-            return Ok(());
-        }
-        self.hand_over(from, to, &frame)?;
-        self.drive(to)
-    }
-
-    fn hand_over(&mut self, from: u32, to: u32, frame: &Bytes) -> Result<(), Violation> {
-        let is_many = self.plan.is_many();
-        let node = &mut self.nodes[to as usize];
-        let local = node.clock.local(self.now);
-        let Some(process) = &mut node.process else { return Ok(()) };
-        if let (Some(deeds), Some(frame)) = (&mut node.deeds, inner_frame(frame, is_many)) {
-            deeds.receive(&frame);
-        }
-        if process.driver.take_frame(from, frame, ROOM, local)? {
-            node.slots[from as usize] -= 1;
-        }
-        Ok(())
-    }
-
-    fn free(&mut self, replica: u32, peer: u32, count: u32) -> Result<(), Violation> {
-        self.nodes[replica as usize].slots[peer as usize] += count;
-        for _ in 0..count {
-            let Some(frame) = self.nodes[replica as usize].blocked[peer as usize].pop_front()
-            else {
-                break;
-            };
-            self.hand_over(peer, replica, &frame)?;
-        }
-        Ok(())
-    }
-
-    fn deed(&mut self, replica: u32) -> Result<(), Violation> {
-        let node = &mut self.nodes[replica as usize];
-        let (Some(process), Some(deeds)) = (&mut node.process, &mut node.deeds) else {
-            return Ok(());
-        };
-        let local = node.clock.local(self.now);
-        let session = node.store.as_ref().map(crate::store::Durable::session);
-        let sends = match process.driver.engine() {
-            Some(engine) => deeds.act(engine, local, &mut self.rng)?,
-            None => Vec::new(),
-        };
-        for (to, frame) in sends {
-            let frame = match session {
-                Some(session) => in_session(session, &frame),
-                None => frame,
-            };
-            self.send(replica, to, frame);
-        }
-        let incarnation = self.nodes[replica as usize].incarnation;
-        self.queue.put(self.now + EVERY, replica, incarnation, Happening::Deed);
-        self.drive(replica)
     }
 }

@@ -37,6 +37,8 @@ pub enum Error {
     OtherEnd(u32),
     /// The batches do not lead to the digest that was given with them.
     OtherDigest(u32),
+    /// It does not have the list that a new store is to continue.
+    OtherList,
     /// The transaction is final already.
     Twice(Tx),
     /// It is the replica's first store, so it sits nothing out for a lost one.
@@ -64,6 +66,7 @@ impl fmt::Display for Error {
             Error::OtherDigest(session) => {
                 write!(to, "the batches of session {session} do not lead to its digest")
             }
+            Error::OtherList => to.write_str("it does not have the list that is continued"),
             Error::Twice(tx) => {
                 let mut text = String::new();
                 tx::write(tx, &mut text);

@@ -20,6 +20,7 @@
 
 #![forbid(unsafe_code)]
 
+mod before;
 mod carried;
 mod error;
 mod origin;
@@ -30,6 +31,7 @@ mod sessions;
 mod store;
 mod windows;
 
+pub use before::Before;
 pub use error::Error;
 pub use origin::Origin;
 pub use read::{Batch, Reader};

@@ -6,6 +6,7 @@ use std::path::Path;
 use rusqlite::{params, Connection, OptionalExtension};
 use themis_engine::tx::Tx;
 
+use crate::carried;
 use crate::error::{corrupt, Error};
 use crate::rows::{chain, column, signed, txs_of, Sha};
 use crate::schema::{self, Identity};
@@ -32,6 +33,12 @@ impl Reader {
         Ok(Reader { base: schema::open_to_read(path, owner)? })
     }
 
+    /// Opens the store of any replica; whose store it is.
+    pub fn open_any(path: &Path) -> Result<(Reader, Identity), Error> {
+        let (base, owner) = schema::open_any(path)?;
+        Ok((Reader { base }, owner))
+    }
+
     /// The session that comes next, or runs.
     pub fn last(&self) -> Result<Session, Error> {
         sessions::last(&self.base)
@@ -40,6 +47,11 @@ impl Reader {
     /// A session.
     pub fn session(&self, number: u32) -> Result<Option<Session>, Error> {
         sessions::find(&self.base, number)
+    }
+
+    /// What was carried over to the last session.
+    pub fn carried(&self) -> Result<Vec<Tx>, Error> {
+        carried::find(&self.base, self.last()?.number)
     }
 
     /// Where a session ended: the position after its last batch, and the digest of all batches up to

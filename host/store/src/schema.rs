@@ -113,10 +113,23 @@ fn add_origin(work: &Connection, origin: Origin) -> Result<(), Error> {
 
 /// A connection that reads.
 pub fn open_to_read(path: &Path, owner: &Identity) -> Result<Connection, Error> {
+    let base = connect_to_read(path)?;
+    check(&base, owner)?;
+    Ok(base)
+}
+
+/// A connection that reads the store of any replica; whose store it is.
+pub fn open_any(path: &Path) -> Result<(Connection, Identity), Error> {
+    let base = connect_to_read(path)?;
+    format_of(&base)?;
+    let owner = identity_of(&base)?;
+    Ok((base, owner))
+}
+
+fn connect_to_read(path: &Path) -> Result<Connection, Error> {
     // Where the last process was killed, a reader may have to write what helps to read the WAL.
     let flags = OpenFlags::SQLITE_OPEN_READ_WRITE | OpenFlags::SQLITE_OPEN_NO_MUTEX;
     let base = connect(path, flags)?;
-    check(&base, owner)?;
     base.pragma_update(None, "query_only", true)?;
     Ok(base)
 }
@@ -153,19 +166,8 @@ fn connect(path: &Path, flags: OpenFlags) -> Result<Connection, Error> {
 
 /// Whether the file is a store of this program and of this replica; its format.
 fn check(base: &Connection, owner: &Identity) -> Result<i64, Error> {
-    let number = |name| base.pragma_query_value(None, name, |row| row.get::<_, i64>(0));
-    if number("application_id")? != APPLICATION {
-        return Err(Error::NotAStore);
-    }
-    let version = number("user_version")?;
-    match version {
-        VERSION | WITHOUT_ORIGIN => {}
-        newer if newer > VERSION => return Err(Error::Newer(newer)),
-        other => return corrupt(format!("format {other}")),
-    }
-    let found = base.query_row("SELECT cluster, replica FROM identity", [], |row| {
-        Ok(Identity { cluster: row.get(0)?, replica: row.get(1)? })
-    })?;
+    let version = format_of(base)?;
+    let found = identity_of(base)?;
     if found.cluster != owner.cluster {
         Err(Error::OtherCluster)
     } else if found.replica != owner.replica {
@@ -173,4 +175,24 @@ fn check(base: &Connection, owner: &Identity) -> Result<i64, Error> {
     } else {
         Ok(version)
     }
+}
+
+/// The format of the file, if it is a store of this program.
+fn format_of(base: &Connection) -> Result<i64, Error> {
+    let number = |name| base.pragma_query_value(None, name, |row| row.get::<_, i64>(0));
+    if number("application_id")? != APPLICATION {
+        return Err(Error::NotAStore);
+    }
+    match number("user_version")? {
+        version @ (VERSION | WITHOUT_ORIGIN) => Ok(version),
+        newer if newer > VERSION => Err(Error::Newer(newer)),
+        other => corrupt(format!("format {other}")),
+    }
+}
+
+fn identity_of(base: &Connection) -> Result<Identity, Error> {
+    let found = base.query_row("SELECT cluster, replica FROM identity", [], |row| {
+        Ok(Identity { cluster: row.get(0)?, replica: row.get(1)? })
+    });
+    Ok(found?)
 }

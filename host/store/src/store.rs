@@ -8,6 +8,7 @@ use rusqlite::{params, Connection, ErrorCode, TransactionBehavior};
 use themis_engine::tx::Tx;
 use themis_engine::window::Windows;
 
+use crate::before::Before;
 use crate::error::{corrupt, Error};
 use crate::origin::{self, Origin};
 use crate::rows::{bytes_of, chain, column, signed, PublicKeys, Sha};
@@ -59,15 +60,17 @@ pub struct Store {
 
 impl Store {
     /// Makes the store of a replica that has not started yet. Either all of it is there, or nothing.
+    /// Where its cluster continues another one, it begins with the list of that.
     pub fn create(
         path: &Path,
         owner: &Identity,
         session: u32,
         setting: &str,
         keys: &PublicKeys,
+        before: Option<&Before>,
     ) -> Result<(), Error> {
         let first = first_session(session, setting, keys.clone());
-        Store::make(path, owner, &first, Origin::First)
+        Store::make(path, owner, first, before, Origin::First)
     }
 
     /// Makes the store of a replica that has lost its first one. It starts with what a new one has, and
@@ -78,12 +81,19 @@ impl Store {
         session: u32,
         setting: &str,
         keys: &PublicKeys,
+        before: Option<&Before>,
     ) -> Result<(), Error> {
         let first = first_session(session, setting, keys.clone());
-        Store::make(path, owner, &first, Origin::Again { sits_out: None })
+        Store::make(path, owner, first, before, Origin::Again { sits_out: None })
     }
 
-    fn make(path: &Path, owner: &Identity, first: &Session, origin: Origin) -> Result<(), Error> {
+    fn make(
+        path: &Path,
+        owner: &Identity,
+        mut first: Session,
+        before: Option<&Before>,
+        origin: Origin,
+    ) -> Result<(), Error> {
         if path.exists() {
             return Err(Error::Exists);
         }
@@ -91,9 +101,12 @@ impl Store {
         for name in ["new", "new-wal", "new-shm"] {
             remove(&path.with_extension(name)).map_err(disk)?;
         }
-        let base = schema::create(&new, owner, origin)?;
-        sessions::put(&base, first)?;
-        carried::put(&base, first.number, &[])?;
+        let mut base = schema::create(&new, owner, origin)?;
+        if let Some(before) = before {
+            before.copy(&mut base, &mut first)?;
+        }
+        sessions::put(&base, &first)?;
+        carried::put(&base, first.number, before.map_or(&[], |it| it.carried))?;
         // The last connection moves the WAL into the file, and removes it.
         base.close().map_err(|(_, fault)| Error::from(fault))?;
         File::open(&new).and_then(|it| it.sync_all()).map_err(disk)?;
@@ -247,7 +260,7 @@ fn write_end(
     ended: &Ended,
     mut last: Session,
 ) -> Result<(), Error> {
-    let digest = put_batches(work, ended, last.digest)?;
+    let digest = put_batches(work, ended.first, ended.batches, last.digest)?;
     if digest != ended.digest {
         return Err(Error::OtherDigest(ended.session));
     }
@@ -273,11 +286,17 @@ fn write_end(
     carried::put(work, next.number, ended.carried)
 }
 
-/// Writes batches, and where each transaction is; returns the digest of the whole list.
-fn put_batches(work: &Connection, ended: &Ended, mut digest: Sha) -> Result<Sha, Error> {
+/// Writes batches from a position on, and where each transaction is; returns the digest of the whole
+/// list.
+pub(crate) fn put_batches(
+    work: &Connection,
+    first: usize,
+    batches: &[Vec<Tx>],
+    mut digest: Sha,
+) -> Result<Sha, Error> {
     let mut put = work.prepare_cached("INSERT INTO batches VALUES (?, ?, ?)")?;
     let mut finals = Vec::new();
-    for (position, batch) in (column(ended.first)..).zip(ended.batches) {
+    for (position, batch) in (column(first)..).zip(batches) {
         let data = bytes_of(batch);
         digest = chain(&digest, &data);
         put.execute(params![position, data, digest])?;

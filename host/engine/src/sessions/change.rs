@@ -273,7 +273,7 @@ impl<C: Core> Sessions<C> {
         let Some(old) = &self.old else { return };
         let may_go = old.may_go(&self.peers, self.place.n, self.place.f, now);
         // Before the next session is opened here, a crash could need it.
-        let is_later = matches!(self.stage, Stage::Running(_) | Stage::Out);
+        let is_later = matches!(self.stage, Stage::Running(_) | Stage::Out | Stage::Ended);
         if may_go && is_later && self.is_idle(old.session) {
             self.retire();
         }

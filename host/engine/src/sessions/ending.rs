@@ -14,6 +14,8 @@ pub enum NotEnded {
     IsLater(u32),
     /// This replica has no part in it.
     HasNoPart(u32),
+    /// It is never opened here: the cluster ends before it.
+    IsAfterLast(u32),
     /// The store was made again, and this replica does not know yet which session runs.
     IsReturning,
 }
@@ -25,6 +27,9 @@ impl fmt::Display for NotEnded {
             NotEnded::IsLater(session) => write!(to, "session {session} does not run yet"),
             NotEnded::HasNoPart(session) => {
                 write!(to, "the replica has no part in session {session}")
+            }
+            NotEnded::IsAfterLast(session) => {
+                write!(to, "the cluster has ended: session {session} is never opened here")
             }
             NotEnded::IsReturning => to.write_str("the replica does not know which session runs"),
         }
@@ -40,6 +45,7 @@ impl<C: Core> Sessions<C> {
         match &mut self.stage {
             Stage::Returning(_) => Err(NotEnded::IsReturning),
             _ if session < due => Err(NotEnded::HasEnded(session)),
+            Stage::Ended => Err(NotEnded::IsAfterLast(session)),
             _ if session > due => Err(NotEnded::IsLater(session)),
             Stage::Out => Err(NotEnded::HasNoPart(session)),
             Stage::Running(engine) => {

@@ -11,6 +11,7 @@ const PART: u8 = 18;
 const ASK_SESSION: u8 = 19;
 const SESSION: u8 = 20;
 const OUT: u8 = 21;
+const ENDED: u8 = 22;
 /// Bytes of batches in one part of a history.
 pub const MAX_PART: usize = 1 << 18;
 const PART_HEAD: usize = 4 + 8 + 32 + 8;
@@ -41,6 +42,8 @@ pub enum SessionFrame {
     },
     /// The sender has no part in this session (4).
     Out(u32),
+    /// The sender has ended this session (4), and opens no later one.
+    Ended(u32),
 }
 
 /// A replica that is behind asks how a session ended: number (4), position (8), whether (1).
@@ -92,7 +95,7 @@ fn usize_at(data: &[u8], at: usize) -> Option<usize> {
 impl SessionFrame {
     /// Whether frames of this kind name their session.
     pub const fn has_kind(kind: u8) -> bool {
-        matches!(kind, IN_SESSION | ASK | PART | ASK_SESSION | SESSION | OUT)
+        matches!(kind, IN_SESSION | ASK | PART | ASK_SESSION | SESSION | OUT | ENDED)
     }
 
     /// The frame of a kind with a payload.
@@ -112,6 +115,7 @@ impl SessionFrame {
             }
             SESSION => read_session(payload).ok_or(bad),
             OUT if payload.len() == 4 => u32_at(payload, 0).map(SessionFrame::Out).ok_or(bad),
+            ENDED if payload.len() == 4 => u32_at(payload, 0).map(SessionFrame::Ended).ok_or(bad),
             _ => Err(bad),
         }
     }
@@ -132,6 +136,7 @@ impl SessionFrame {
                 encoded(SESSION, &[&drawn.to_be_bytes()[..], &session.to_be_bytes()].concat())
             }
             SessionFrame::Out(session) => encoded(OUT, &session.to_be_bytes()),
+            SessionFrame::Ended(session) => encoded(ENDED, &session.to_be_bytes()),
         }
     }
 }
@@ -228,6 +233,7 @@ mod tests {
             SessionFrame::AskSession(u64::MAX - 1),
             SessionFrame::Session { drawn: 1 << 60, session: 9 },
             SessionFrame::Out(1 << 20),
+            SessionFrame::Ended(1 << 20),
         ] {
             let data = frame.encode();
             assert_eq!(data.len(), 4 + u32_at(&data, 0).unwrap() as usize);
@@ -246,7 +252,8 @@ mod tests {
             assert!(read(&data).is_err(), "{cut}");
         }
         let session = SessionFrame::Session { drawn: 7, session: 1 };
-        for frame in [SessionFrame::AskSession(7), session, SessionFrame::Out(7)] {
+        let frames = [SessionFrame::Out(7), SessionFrame::Ended(7), SessionFrame::AskSession(7)];
+        for frame in frames.into_iter().chain([session]) {
             let data = frame.encode();
             assert!(read(&data.slice(..data.len() - 1)).is_err());
             assert!(read(&[&data[..], &[0]].concat().into()).is_err());

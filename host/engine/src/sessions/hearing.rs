@@ -41,6 +41,7 @@ impl<C: Core> Sessions<C> {
             SessionFrame::AskSession(drawn) => self.hear_session_asked(peer, drawn, now),
             SessionFrame::Session { drawn, session } => self.hear_session(peer, drawn, session),
             SessionFrame::Out(session) => self.hear_out(peer, session),
+            SessionFrame::Ended(session) => self.hear_ended(peer, session),
         }
         self.put(Output::Freed(peer, 1));
         Ok(())
@@ -94,7 +95,7 @@ impl<C: Core> Sessions<C> {
         match self.stage {
             Stage::Running(_) | Stage::Storing => Some(self.history.session + 1),
             Stage::Recovering | Stage::Opening | Stage::Marking(_) => Some(self.history.session),
-            Stage::Out | Stage::Returning(_) => None,
+            Stage::Out | Stage::Ended | Stage::Returning(_) => None,
         }
     }
 
@@ -159,7 +160,8 @@ impl<C: Core> Sessions<C> {
             | Stage::Recovering
             | Stage::Storing
             | Stage::Opening
-            | Stage::Marking(_) => false,
+            | Stage::Marking(_)
+            | Stage::Ended => false,
         };
         if !is_stuck || !self.is_left_behind() {
             self.behind = None;

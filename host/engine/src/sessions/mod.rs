@@ -1,8 +1,7 @@
 //! Sessions without end: one engine after the other, each with its own keys and log, and one list of
 //! batches over all of them.
 //!
-//! `docs/SERVICE.md`, "Sessions without end", has the protocol: states, messages, rules, and why
-//! each is safe.
+//! `docs/SESSIONS.md` has the protocol: states, messages, rules, and why each is safe.
 
 mod behind;
 mod between;
@@ -13,6 +12,7 @@ pub mod frames;
 mod hearing;
 pub mod history;
 pub mod keys;
+mod last;
 mod old;
 mod peers;
 pub mod requests;
@@ -22,6 +22,8 @@ pub mod running;
 pub mod secret;
 mod service;
 mod status;
+mod submitting;
+mod turns;
 
 use bytes::Bytes;
 
@@ -29,6 +31,7 @@ use crate::clients::{Answer, Ticket};
 use crate::intake::Note;
 use crate::turns::Pending;
 use crate::tx::Tx;
+pub use behind::chained;
 pub use ending::NotEnded;
 pub use service::Sessions;
 pub use status::Status;

@@ -18,7 +18,7 @@ use crate::time::Time;
 use crate::window::{Check, Windows};
 
 /// Once the session may end, for so long the keys of all replicas are waited for. Then those of a
-/// quorum are enough.
+/// quorum are enough, of replicas that do not say that they are out.
 const KEY_PATIENCE: Duration = Duration::from_secs(5);
 /// A session in which a replica has no part lasts for so long at least. Then it ends for that replica,
 /// which counts among the f meanwhile, once its next key is agreed.
@@ -216,10 +216,10 @@ impl Session {
 
     /// Whether it announces a key of this or an earlier session. It came too late: the marker had
     /// arrived almost everywhere; or it is another value of a part. Now it says nothing; but where it
-    /// has arrived it is carried over until it is final, and takes up a place.
+    /// has arrived it is carried over until it is final, and takes up a place. A cluster that continues
+    /// another one may have fewer replicas, so it may be of a replica that is not there any more.
     fn is_stale(&self, tx: &Tx) -> bool {
-        let is_of_replica = announcing(tx.client).is_some_and(|it| it < self.place.n);
-        is_of_replica && is_past_part(tx, self.number)
+        announcing(tx.client).is_some() && is_past_part(tx, self.number)
     }
 
     /// One that is not final is taken. Where the window does not say that it is not, the store does.
@@ -330,7 +330,17 @@ impl Session {
         }
         let since = *self.due_since.get_or_insert(now);
         let is_late = now.since(since) > KEY_PATIENCE || used.commit > views / 4 * 3;
-        count == n || is_late && count >= self.place.quorum()
+        count == n || is_late && self.count_of_others() >= self.place.quorum()
+    }
+
+    /// How many keys are agreed of replicas that do not say that they are out. One that has lost its
+    /// store may have announced a key before that, and have no part in the next session all the same.
+    fn count_of_others(&self) -> u32 {
+        (0..self.place.n).filter(|it| !self.is_out(*it) && self.agreed.has(*it)).count() as u32
+    }
+
+    fn is_out(&self, replica: u32) -> bool {
+        self.out >> replica & 1 == 1
     }
 
     /// Whether a replica has no part in this session, and could have one in the next: its own key is
@@ -338,8 +348,7 @@ impl Session {
     /// the next session too, and announces no key for it.
     fn can_let_others_in(&self, count: u32) -> bool {
         let Place { n, .. } = self.place;
-        let is_out = |it: &u32| self.out >> *it & 1 == 1;
-        let has_all_others = (0..n).filter(|it| !is_out(it)).all(|it| self.agreed.has(it));
+        let has_all_others = (0..n).all(|it| self.is_out(it) || self.agreed.has(it));
         self.lacks_a_replica && count == n
             || self.out != 0 && has_all_others && count >= self.place.quorum()
     }

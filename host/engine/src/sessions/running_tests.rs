@@ -66,6 +66,20 @@ fn the_keys_of_a_quorum_are_enough_after_a_while() {
     assert_eq!(it.arrive(&mut desk, late, NOW).unwrap(), [marker(3)]);
 }
 
+/// The key of a replica that is out may be one that it announced before it lost its store.
+#[test]
+fn the_key_of_a_replica_that_is_out_does_not_stand_in_for_another() {
+    let (mut it, mut desk) = (session(), PlayedDesk::default());
+    let later = NOW + KEY_PATIENCE * 2;
+    it.let_in(2);
+    agree(&mut it, 0..4);
+    for (used, now) in [(HALF, NOW), (HALF, later), (Used { commit: 76, arrived: 0 }, later)] {
+        assert!(it.arrive(&mut desk, used, now).unwrap().is_empty());
+    }
+    agree(&mut it, 4..5);
+    assert_eq!(it.arrive(&mut desk, HALF, later).unwrap(), [marker(3)]);
+}
+
 /// A session in which little happens may last for days, and without a replica no other may fail.
 #[test]
 fn a_session_without_one_of_the_replicas_ends_once_that_can_be_in_the_next() {
@@ -165,6 +179,19 @@ fn a_part_that_came_too_late_is_taken_from_any_peer_until_it_is_final() {
     assert_eq!(it.arrive(&mut desk, FRESH, NOW).unwrap(), made_up[..MAX_STALE]);
     let unused = Tx { number: 8 * 3 + 6, ..late[0] };
     it.sift(&mut desk, 1, heard(&[unused])).unwrap();
+    assert!(it.arrive(&mut desk, FRESH, NOW).unwrap().is_empty());
+}
+
+/// It was carried over from a cluster that had more replicas.
+#[test]
+fn a_part_of_a_replica_that_is_not_there_any_more_is_taken_too() {
+    let (mut it, mut desk) = (session(), PlayedDesk::default());
+    let late = announcement(PLACE.n, 3, &KEY);
+    it.sift(&mut desk, 1, late.iter().map(|tx| receipt(*tx, 1)).collect()).unwrap();
+    assert_eq!(it.arrive(&mut desk, FRESH, NOW).unwrap(), late);
+    // Nobody announces a key for it.
+    let next = announcement(PLACE.n, 4, &KEY);
+    it.sift(&mut desk, 1, next.iter().map(|tx| receipt(*tx, 1)).collect()).unwrap();
     assert!(it.arrive(&mut desk, FRESH, NOW).unwrap().is_empty());
 }
 

@@ -3,9 +3,9 @@
 use std::sync::Arc;
 use std::time::Duration;
 
-use themis::{Error, Tx};
+use themis::Error;
 
-use crate::clients::{Answer, Clients, Ticket};
+use crate::clients::Clients;
 use crate::core::Core;
 use crate::engine::{self, Engine};
 use crate::sessions::behind::Behind;
@@ -18,10 +18,9 @@ use crate::sessions::peers::{EarlyFrames, PeerSessions};
 use crate::sessions::requests::{OpenLog, Recover};
 use crate::sessions::returning::Returning;
 use crate::sessions::running::Session;
-use crate::sessions::{Found, Group, Input, Output};
+use crate::sessions::{Found, Input, Output};
 use crate::setting::{Options, Place};
 use crate::time::Time;
-use crate::window::Check;
 
 /// How often the change of sessions is looked at.
 const LOOK_EVERY: Duration = Duration::from_millis(100);
@@ -43,6 +42,8 @@ pub(super) enum Stage<C> {
     Marking(C),
     /// This replica takes no part: it has no key there, or has lost its log.
     Out,
+    /// It is never opened here: the operator ends the cluster with the session before.
+    Ended,
 }
 
 /// A replica over its sessions, without anything that it touches.
@@ -83,8 +84,9 @@ pub struct Sessions<C> {
     pub(super) announced_at: Time,
     pub(super) asks: Vec<crate::budget::Budget>,
     /// The session of the records that are being made durable.
-    pending_of: Option<u32>,
-    is_old_next: bool,
+    pub(super) pending_of: Option<u32>,
+    /// Whether the engine of the session before prepares first, the next time.
+    pub(super) is_old_next: bool,
     looked_at: Option<Time>,
     outputs: Vec<Output>,
 }
@@ -147,6 +149,9 @@ impl<C: Core> Sessions<C> {
 
     /// Starts with the next session: its log first, or without part in it.
     pub(super) fn begin(&mut self) {
+        if !self.may_open(self.history.session) {
+            return self.finish();
+        }
         let History { session, keys, .. } = &self.history;
         let has_key = keys.get(self.place.me as usize).is_some_and(Option::is_some);
         if has_key && self.may_run(*session) {
@@ -202,61 +207,10 @@ impl<C: Core> Sessions<C> {
         self.put(Output::Send { to: read.peer, frame });
     }
 
-    // ---- turns
+    // ---- engines
 
-    /// Prepares the next events of one session, as [`Engine::prepare`] does.
-    pub fn prepare(&mut self, now: Time) -> Result<Option<Group>, Error> {
-        self.look(now);
-        if self.pending_of.is_some() {
-            return Ok(None);
-        }
-        self.is_old_next = !self.is_old_next;
-        for is_old in [self.is_old_next, !self.is_old_next] {
-            let found = if is_old {
-                self.old.as_mut().and_then(|it| Some((it.session, it.engine()?)))
-            } else if let Stage::Running(engine) = &mut self.stage {
-                Some((self.history.session, engine))
-            } else {
-                None
-            };
-            let Some((session, engine)) = found else { continue };
-            if let Some(pending) = engine.prepare(now)? {
-                self.pending_of = Some(session);
-                self.collect(now)?;
-                return Ok(Some(Group { session, pending }));
-            }
-        }
-        self.collect(now)?;
-        Ok(None)
-    }
-
-    /// The records are durable: the turns on these events may be made.
-    pub fn durable(&mut self, group: Group) {
-        self.pending_of = None;
-        if let Some(engine) = self.engine_of(group.session) {
-            engine.durable(group.pending);
-        }
-    }
-
-    /// Makes the turn on the next event whose record is durable; false where there is none.
-    pub fn turn(&mut self, now: Time) -> Result<bool, Error> {
-        let mut has_made = false;
-        for engine in self.engines() {
-            has_made = engine.turn(now)?;
-            if has_made {
-                break;
-            }
-        }
-        self.collect(now)?;
-        Ok(has_made)
-    }
-
-    /// Whether no event of this session is being made durable or waits for its turn.
-    pub(super) fn is_idle(&mut self, session: u32) -> bool {
-        self.pending_of != Some(session) && self.engine_of(session).is_none_or(|it| it.is_idle())
-    }
-
-    fn engines(&mut self) -> impl Iterator<Item = &mut Box<Engine<C>>> {
+    /// The engines that may have turns to make.
+    pub(super) fn engines(&mut self) -> impl Iterator<Item = &mut Box<Engine<C>>> {
         let running = match &mut self.stage {
             Stage::Running(engine) => Some(engine),
             _ => None,
@@ -341,7 +295,8 @@ impl<C: Core> Sessions<C> {
         self.looked_at = None;
     }
 
-    fn look(&mut self, now: Time) {
+    /// Looks at the change of sessions, now and then.
+    pub(super) fn look(&mut self, now: Time) {
         if self.looked_at.is_none_or(|at| now.since(at) >= LOOK_EVERY) {
             self.looked_at = Some(now);
             self.retire_old(now);
@@ -349,6 +304,7 @@ impl<C: Core> Sessions<C> {
             self.open_ahead();
             self.ask_for_session(now);
             self.announce_from_outside(now);
+            self.announce_end(now);
             self.catch_up(now);
         }
     }
@@ -359,42 +315,9 @@ impl<C: Core> Sessions<C> {
         let Stage::Running(engine) = &self.stage else { return };
         let keys = engine.session().map(Session::next_keys).unwrap_or_default();
         let are_agreed = !keys.is_empty() && keys.iter().all(Option::is_some);
-        if self.ahead != next && are_agreed {
+        if self.ahead != next && are_agreed && self.may_open(next) {
             self.ahead = next;
             self.put(Output::OpenAhead(next, keys));
         }
-    }
-
-    // ---- clients
-
-    fn submit(&mut self, ticket: Ticket, txs: Vec<Tx>, now: Time) -> Result<(), Error> {
-        if let Some((tx, why)) = self.refusal(&txs)? {
-            self.put(Output::Answer(ticket, Answer::Refused(tx, why)));
-            return Ok(());
-        }
-        if let Stage::Running(engine) = &mut self.stage {
-            return engine.take(engine::Input::Submit { ticket, txs }, now);
-        }
-        let Options { max_waiting, max_of_client, .. } = self.options;
-        match self.waiting.submit(&txs, max_waiting, max_of_client) {
-            Some(new) => self.clients.put(ticket, txs, new),
-            None => self.put(Output::Answer(ticket, Answer::Busy)),
-        }
-        Ok(())
-    }
-
-    /// The first transaction of a submission that is not taken. One that is known here is.
-    fn refusal(&mut self, txs: &[Tx]) -> Result<Option<(Tx, Check)>, Error> {
-        for tx in txs {
-            let check = match &mut self.stage {
-                Stage::Running(engine) => engine.check(tx)?,
-                _ if crate::sessions::reserved::is_reserved(tx.client) => Check::Reserved,
-                _ => self.history.windows.check(tx),
-            };
-            if check != Check::New {
-                return Ok(Some((*tx, check)));
-            }
-        }
-        Ok(None)
     }
 }

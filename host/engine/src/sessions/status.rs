@@ -37,6 +37,7 @@ impl<C: Core> Sessions<C> {
             Stage::Opening => ("opening", None),
             Stage::Marking(_) => ("marking", None),
             Stage::Out => ("out", None),
+            Stage::Ended => ("ended", None),
         };
         let batches = engine.as_ref().map_or(0, |it| it.batches);
         let digest = engine.as_ref().map_or(self.history.digest, |it| it.digest);

@@ -22,8 +22,10 @@ use crate::window::Check;
 
 mod ahead;
 mod between;
+mod cut;
 mod ending;
 mod help;
+mod last;
 
 const PLACE: Place = Place { me: 0, n: 5, f: 1, views: 100 };
 const KEY: PublicKey = [9; 60];

@@ -18,6 +18,9 @@ use crate::metrics::{fault_of, page_of, Counted};
 use crate::picture::{picture_of, Seen};
 use crate::worker::{self, status_line};
 
+/// The stage of a replica that opens no further session.
+const ENDED: &str = "ended";
+
 impl<C: Conduct> Working<C> {
     fn log_bytes(&self) -> u64 {
         self.logs.values().map(|it| it.end).sum()
@@ -37,7 +40,8 @@ impl<C: Conduct> Working<C> {
     pub(super) fn status(&mut self, now: Time) -> String {
         let it = self.sessions.status(now);
         let fault = fault_over_sessions(&it, self.setup.place().quorum());
-        let engine = it.engine.unwrap_or_else(between_sessions);
+        let ended = end_of(&it);
+        let engine = it.engine.unwrap_or_else(|| between_sessions(it.stage));
         let mut fields = status_line(&self.setup, &engine, &self.standing());
         let calls = self.sessions.running().map(|it| C::timed(it.core_mut()).all());
         for (name, spent) in calls.into_iter().flatten() {
@@ -51,6 +55,8 @@ impl<C: Conduct> Working<C> {
         fields.insert("digest".to_owned(), json!(hex(&it.digest)));
         fields.insert("stage".to_owned(), json!(it.stage));
         fields.insert("helps".to_owned(), json!(it.helps));
+        fields.insert("last_session".to_owned(), json!(self.setup.config.last_session));
+        fields.insert("ended".to_owned(), ended);
         Value::Object(fields).to_string()
     }
 
@@ -58,7 +64,7 @@ impl<C: Conduct> Working<C> {
     pub(super) fn pages(&mut self, now: Time) -> Pages {
         let it = self.sessions.status(now);
         let fault = fault_over_sessions(&it, self.setup.place().quorum());
-        let status = it.engine.unwrap_or_else(between_sessions);
+        let status = it.engine.unwrap_or_else(|| between_sessions(it.stage));
         let standing = self.standing();
         let none = Default::default;
         let counted = Counted {
@@ -79,7 +85,7 @@ impl<C: Conduct> Working<C> {
     /// What the live page shows.
     pub(super) fn picture(&mut self, now: Time) -> String {
         let it = self.sessions.status(now);
-        let status = it.engine.unwrap_or_else(between_sessions);
+        let status = it.engine.unwrap_or_else(|| between_sessions(it.stage));
         let running = self.sessions.running();
         let (heard, views) =
             running.map_or_else(Default::default, |it| (it.peers_heard(now), it.recent_views()));
@@ -107,6 +113,17 @@ impl<C: Conduct> Working<C> {
     }
 }
 
+/// Where the cluster has ended at this replica, by its operator's `last_session`: the last session, how
+/// many batches are final, and what chains them. The cluster that continues this one starts there.
+fn end_of(it: &sessions::Status) -> Value {
+    match it.session.checked_sub(1) {
+        Some(last) if it.stage == ENDED => {
+            json!({ "session": last, "position": it.position, "digest": hex(&it.digest) })
+        }
+        _ => Value::Null,
+    }
+}
+
 /// Why a replica is not healthy: its engine says so, it has no part in the session, or it has lost its
 /// store and does not know yet where the others are. A change of session is no fault.
 fn fault_over_sessions(it: &sessions::Status, quorum: u32) -> Option<&'static str> {
@@ -114,6 +131,9 @@ fn fault_over_sessions(it: &sessions::Status, quorum: u32) -> Option<&'static st
         Some(engine) => fault_of(engine, quorum),
         None if it.stage == "out" => Some(
             "the replica has no part in this session: its key was not agreed, or its log or store is lost",
+        ),
+        None if it.stage == ENDED => Some(
+            "the cluster has ended here: the session was the last one that last_session allows",
         ),
         None if it.stage == "returning" => Some(
             "the store was made again: the replica waits until n-f others say in which session they are",
@@ -123,7 +143,7 @@ fn fault_over_sessions(it: &sessions::Status, quorum: u32) -> Option<&'static st
 }
 
 /// Where a replica stands while no session runs.
-fn between_sessions() -> Status {
+fn between_sessions(stage: &str) -> Status {
     Status {
         view: 0,
         commit: 0,
@@ -135,7 +155,7 @@ fn between_sessions() -> Status {
         queued: 0,
         given: 0,
         heard: 1,
-        is_over: false,
+        is_over: stage == ENDED,
         is_closing: false,
         counts: Vec::new(),
     }

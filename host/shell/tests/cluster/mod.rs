@@ -1,4 +1,5 @@
-//! Clusters of five processes: `themisd` itself, as `init` and `join` make it, its logs and its store.
+//! Clusters of processes, mostly five: `themisd` itself, as `init` and `join` make it, its logs and its
+//! store.
 
 #![allow(dead_code)] // no test needs all of it
 
@@ -31,7 +32,7 @@ pub struct Cluster {
 
 impl Drop for Cluster {
     fn drop(&mut self) {
-        (0..REPLICAS).for_each(|it| self.kill(it));
+        (0..self.count()).for_each(|it| self.kill(it));
         let _ = fs::remove_dir_all(&self.folder);
     }
 }
@@ -63,38 +64,48 @@ impl Cluster {
     /// As `init` and `join` make it, with these more words for `join`. Each replica has a folder of
     /// its own.
     pub fn with(name: &str, more: &[&str]) -> Cluster {
-        let folder = std::env::temp_dir().join(format!("themisd-{name}-{}", std::process::id()));
-        let addresses = free_addresses(2 * REPLICAS);
-        let (peers, clients) = addresses.split_at(REPLICAS);
-        let of = |it: usize| folder.join(it.to_string()).to_str().unwrap().to_owned();
-        for (it, (peer, client)) in peers.iter().zip(clients).enumerate() {
-            let (at, it) = (of(it), it.to_string());
-            themisd(&[
-                "init",
-                &at,
-                "--replica",
-                &it,
-                "--peer",
-                peer,
-                "--client",
-                client,
-                "--height",
-                "505",
-            ]);
-        }
-        let parts: Vec<_> =
-            (0..REPLICAS).map(|it| format!("{}/{it}.public.toml", of(it))).collect();
-        let parts: Vec<_> = parts.iter().map(String::as_str).collect();
+        let cluster = Cluster::init(name, REPLICAS, &["--height", "505"]);
         for it in 0..REPLICAS {
-            let (at, number) = (of(it), it.to_string());
-            let words = ["join", &at, "--replica", &number, "--f", "1", "--views", "200"];
-            themisd(&[&words[..], more, &parts].concat());
-            let config = format!("{at}/{it}.toml");
-            let mut config = fs::File::options().append(true).open(config).unwrap();
-            config.write_all(b"allow_faults = true\n").unwrap();
+            cluster.join(it, &[&["--f", "1", "--views", "200"], more].concat());
         }
-        let clients = clients.to_vec();
-        Cluster { folder, clients, processes: (0..REPLICAS).map(|_| None).collect() }
+        cluster
+    }
+
+    /// That many replicas, as `init` makes them.
+    pub fn init(name: &str, count: usize, more: &[&str]) -> Cluster {
+        let folder = std::env::temp_dir().join(format!("themisd-{name}-{}", std::process::id()));
+        let addresses = free_addresses(2 * count);
+        let (peers, clients) = addresses.split_at(count);
+        let processes = (0..count).map(|_| None).collect();
+        let cluster = Cluster { folder, clients: clients.to_vec(), processes };
+        for (it, (peer, client)) in peers.iter().zip(clients).enumerate() {
+            let (at, it) = (cluster.file(it, ""), it.to_string());
+            let words = ["init", at.to_str().unwrap(), "--replica", &it];
+            themisd(&[&words[..], &["--peer", peer, "--client", client], more].concat());
+        }
+        cluster
+    }
+
+    /// Makes the rest of a replica, in which a test may make faults.
+    pub fn join(&self, replica: usize, more: &[&str]) {
+        let part = |it: usize| self.file(it, &format!("{it}.public.toml"));
+        let parts: Vec<_> = (0..self.count()).map(part).collect();
+        let parts: Vec<_> = parts.iter().map(|it| it.to_str().unwrap()).collect();
+        let (at, number) = (self.file(replica, ""), replica.to_string());
+        let words = ["join", at.to_str().unwrap(), "--replica", &number];
+        themisd(&[&words[..], more, &parts].concat());
+        self.configure(replica, "allow_faults = true");
+    }
+
+    /// Adds a line to the configuration of a replica.
+    pub fn configure(&self, replica: usize, line: &str) {
+        let config = self.file(replica, &format!("{replica}.toml"));
+        let mut config = fs::File::options().append(true).open(config).unwrap();
+        writeln!(config, "{line}").unwrap();
+    }
+
+    pub fn count(&self) -> usize {
+        self.clients.len()
     }
 
     /// A file in a replica's folder.
@@ -122,12 +133,12 @@ impl Cluster {
     }
 
     pub fn start_all(&mut self) {
-        (0..REPLICAS).for_each(|it| self.start(it));
+        (0..self.count()).for_each(|it| self.start(it));
     }
 
     /// Has all operators end a session.
     pub fn close_all(&self, session: u32) {
-        (0..REPLICAS).for_each(|it| self.close(it, session));
+        (0..self.count()).for_each(|it| self.close(it, session));
     }
 
     /// Has an operator end a session. One that has ended by itself meanwhile, or in which the replica has
@@ -190,7 +201,7 @@ impl Cluster {
 
     pub fn submit(&self, number: u32) {
         let line = format!("submit 7.{number}.{}", number * 3);
-        for replica in (0..REPLICAS).filter(|it| self.processes[*it].is_some()) {
+        for replica in (0..self.count()).filter(|it| self.processes[*it].is_some()) {
             let answer = self.ask(replica, &line);
             assert_taken(&answer);
         }
@@ -227,7 +238,7 @@ impl Cluster {
     /// Waits until a replica that was out runs in a session after this one, and returns that. Sessions
     /// end for it by themselves after a minute; that of the start, and the next, are closed here.
     pub fn run_again(&self, replica: usize, after: u32) -> u32 {
-        let others = (replica + 1) % REPLICAS;
+        let others = (replica + 1) % self.count();
         let is_level = |it: &str| session_of(it) >= session_of(&self.order(others, "status"));
         for _ in 0..2 {
             let is_known = |it: &str| it.contains(RUNNING) || it.contains(OUT) && is_level(it);

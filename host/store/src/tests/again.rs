@@ -3,7 +3,7 @@
 use super::*;
 
 fn again(folder: &Folder) -> Store {
-    Store::create_again(&folder.file(), &owner(), 0, "first", &keys(0)).unwrap();
+    Store::create_again(&folder.file(), &owner(), 0, "first", &keys(0), None).unwrap();
     Store::open(&folder.file(), &owner()).unwrap()
 }
 
@@ -38,7 +38,7 @@ fn none_is_made_where_one_is_there_and_a_first_one_sits_nothing_out() {
     let mut store = folder.store();
     assert_eq!(origin(&store), Origin::First);
     assert_eq!(store.sit_out(7), Err(Error::NeverLost));
-    let made = Store::create_again(&folder.file(), &owner(), 0, "first", &keys(0));
+    let made = Store::create_again(&folder.file(), &owner(), 0, "first", &keys(0), None);
     assert_eq!(made, Err(Error::Exists));
     assert_eq!(origin(&store), Origin::First);
 }

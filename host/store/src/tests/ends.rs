@@ -142,7 +142,7 @@ fn stores_that_are_refused() {
     assert_eq!(cause(&file), Error::Missing);
     assert!(!file.exists()); // no start makes one
     drop(folder.store());
-    let again = Store::create(&file, &owner(), 0, "first", &keys(0));
+    let again = Store::create(&file, &owner(), 0, "first", &keys(0), None);
     assert_eq!(again, Err(Error::Exists));
 
     let other = Identity { replica: 4, ..owner() };

@@ -43,4 +43,8 @@ fn figures() {
         at = last.position + 1;
     }
     println!("{at} batches are read in {:.2} s", start.elapsed().as_secs_f64());
+    let (next, start, end) = (Folder::new("figures-next"), Instant::now(), history.session);
+    let before = Before { list: &reader, position: end.first, digest: end.digest, carried: &[] };
+    Store::create(&next.file(), &owner(), 40, "", &keys(0), Some(&before)).unwrap();
+    println!("a new store continues them after {:.1} s", start.elapsed().as_secs_f64());
 }

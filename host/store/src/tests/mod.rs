@@ -1,4 +1,5 @@
 mod again;
+mod before;
 mod crashes;
 mod damage;
 mod ends;
@@ -31,7 +32,7 @@ impl Folder {
 
     /// A new store.
     fn store(&self) -> Store {
-        Store::create(&self.file(), &owner(), 0, "first", &keys(0)).unwrap();
+        Store::create(&self.file(), &owner(), 0, "first", &keys(0), None).unwrap();
         Store::open(&self.file(), &owner()).unwrap()
     }
 

@@ -4,6 +4,7 @@ use Rattle.durable_node.specs.Check.{header_digest}
 use Rattle.durable_node.specs.Header.{IsOwn, records_in}
 use Rattle.durable_node.specs.Log.{IsWholePrefix}
 use Rattle.durable_node.proofs.Headers.{length_header}
+use Rattle.replica_box.specs.CheckerKeys.{keys_fit}
 use Rattle.replica_box.specs.Opening.{IsDigestOf, owner_keys}
 use Rattle.replica_box.proofs.LogContinues.{digest_is, opened_as}
 use Rattle.replica_box.proofs.Digests.{length_keys}
@@ -25,7 +26,7 @@ returns-clause-opened c =
     opened_as _ _ _ _ _ _ _ _ _ _ _ (owner_keys height publics) _ _ _ _ _ _ _ (length_keys height publics) c.in_ok-header.ensures.header
     (subst (λ (h : List ℕ). IsOwn h c.args.log.now) same c.in_ok-logged.ensures.own)
     (subst (λ (h : List ℕ). IsWholePrefix (header_digest h) (records_in c.args.log.now) logged.events.items logged.size) same c.in_ok-logged.ensures.prefix)
-    c.in_ok-node.ensures.state c.in_ok-checker.ensures (ap any_gives c.in_ok-sealer.ensures.sealer) c.in_ok-sealer.ensures.replica
+    c.in_ok-node.ensures.state (ap keys_fit c.in_ok-checker.ensures) (ap any_gives c.in_ok-sealer.ensures.sealer) c.in_ok-sealer.ensures.replica
     c.in_ok-sealer.ensures.room c.as_slice-events.ensures.value c.used_bytes.ensures.torn c.used_bytes.ensures.whole
 
 pub returns-clause-digest : goal.returns-clause-digest

@@ -6,10 +6,11 @@ use Rattle.run_verdict.specs.Shown.{Shows}
 use Rattle.seal_kit.specs.Seals.{capacity_of}
 use Rattle.progress_laws.specs.Clean.{run_with}
 use Rattle.progress_laws.proofs.Kits.{kit_is_made}
+use Rattle.session_rules.specs.Cuts.{marker}
 use Rattle.session_runs.specs.TwoSessions.{EndsFirst, marker_plan, two_sessions}
 use Rattle.session_runs.proofs.FirstEnds.{marked, setting_is, faulty_is}
 use Rattle.session_runs.proofs.MarkerPlan.{clean, proper, rules}
-use Rattle.session_runs.proofs.TwoRecords.{first_ended, service}
+use Rattle.session_runs.proofs.TwoRecords.{audited, first_ended, service}
 use Rattle.session_runs.proofs.witness.a_service_may_end_sessions.Goals as goal
 
 pub returns-clause-plan : goal.returns-clause-plan
@@ -31,4 +32,5 @@ returns-clause-run c = λ fits gives run seals is. subst (EndsFirst fits) (sym i
     let waits = c.a_sound_record_may_be_idle.ensures.waiting in (
       c.own_histories_serve.ensures (λ session. fits) (two_sessions played) 2 (service waits fits played sound setting faulty holds_marker),
       first_ended waits fits played sound setting faulty holds_marker,
+      audited waits fits played sound setting faulty holds_marker (c.cuts_agree.ensures fits played (marker 0) sound),
     ))

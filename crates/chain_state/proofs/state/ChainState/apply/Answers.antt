@@ -4,7 +4,6 @@ use Rattle.std.specs.Vec.{with_items}
 use Rattle.std.proofs.lemmas.List.{map-append, with_items_is}
 use Rattle.seq_base.specs.declared.tx.Tx.{Tx}
 use Rattle.seq_base.specs.Lists.{holds}
-use Rattle.seq_base.specs.Setting.{Parameters}
 use Rattle.chain_state.specs.Keeping.{KeepsStandings, is_among}
 use Rattle.chain_state.specs.Lists.{lists_of}
 use Rattle.chain_state.specs.Places.{put_all}
@@ -12,6 +11,7 @@ use Rattle.chain_state.specs.Shown.{shown}
 use Rattle.chain_state.specs.Standings.{Stage, Standings, applied}
 use Rattle.chain_state.specs.Stepping.{placed}
 use Rattle.chain_state.proofs.NextTables.{kept_reordered, kept_goes_on, made_within, stages_go_on}
+use Rattle.chain_state.proofs.Stands.{with_stages}
 use Rattle.chain_state.proofs.state.ChainState.apply.Goals as goal
 use Rattle.chain_state.proofs.state.ChainState.apply.Goals.{After-drop-made-2}
 
@@ -59,9 +59,6 @@ invariant_of-self-2 c =
     (kept_goes_on c.args.self.now (lists_of c.args.block.now) (shown c.in_ok-made.made.own) c.in_ok-made.made.vertices.items (map placed c.in_ok-made.made.stepped.items) c.in_ok-made.made.pending.items
     c.insert_all.new.set.keys c.in_ok-made.made.waiting.keys c.in_ok-made.ensures c.self.inside.pending.items c.reserve.new.self.keys c.self.inside.waiting.keys kept
     (λ t. inserted t ∙ ap (λ (xs : List Tx). is_among c.reserve.new.self.keys t || holds t xs) c.deref.ensures.value))
-
-abbrev with_stages : Parameters → List Stage → Standings
-with_stages s stages = record { setting = s; stages = stages }
 
 pub returns-clause-ok : goal.returns-clause-ok
 returns-clause-ok c = ap₂ with_stages (ap (λ (v : Standings). v.setting) c.self.view_is) (left c)

@@ -1,15 +1,14 @@
-use Rattle.std.proofs.Common.{◌≡◌, List, map, ap, ◌∙◌}
+use Rattle.std.proofs.Common.{◌≡◌, map, ap, ◌∙◌}
 use Rattle.std.proofs.lemmas.List.Elements.{same_from_all_zip}
 use Rattle.seq_base.specs.declared.tx.Tx.{Tx}
 use Rattle.chain_state.specs.Shown.{shown}
-use Rattle.chain_state.specs.Standings.{Stage, Standings}
+use Rattle.chain_state.proofs.Stands.{with_stages}
 use Rattle.chain_state.proofs.state.ChainState.copy.Goals as goal
 
 pub returns : goal.returns
 returns c =
     let stages : map shown c.in_ok-shared.field-0.items ≡ map shown c.self.inside.proposals.items = c.in_ok-shared.ensures ∙ ap (map shown) c.deref.ensures.value in
-    let with_stages : List Stage → Standings = λ stages. record { setting = c.self.inside.setting; stages = stages } in
-    ap with_stages stages ∙ c.self.view_is
+    ap (with_stages c.self.inside.setting) stages ∙ c.self.view_is
 
 pub invariant_of-result : goal.invariant_of-result
 invariant_of-result c =

@@ -1,14 +1,10 @@
 use Rattle.std.proofs.Common.{List, ◌∙◌, ap, map}
 use Rattle.seq_base.specs.declared.tx.Tx.{Tx}
 use Rattle.seq_base.specs.Setting.{threshold_of}
-use Rattle.majority_graph.specs.declared.edge.Edge.{Edge}
-use Rattle.majority_graph.specs.Graph.{Graph}
 use Rattle.majority_graph.specs.Ranks.{ranked_edge}
 use Rattle.majority_graph.proofs.Places.{table_is}
+use Rattle.majority_graph.proofs.WantedFirst.{with_rows}
 use Rattle.majority_graph.proofs.ranking.Ranking.of.Goals as goal
-
-abbrev with_rows : List Tx → List (List Edge) → Graph
-with_rows vertices edges = record { vertices = vertices; edges = edges }
 
 pub returns : goal.returns
 returns c =

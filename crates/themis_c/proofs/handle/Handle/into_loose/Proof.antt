@@ -28,7 +28,8 @@ use Rattle.std.proofs.ResultValues.{and_tt}
 use Rattle.std.proofs.raw_atomic.Walks.{proved_at, leaves}
 use Rattle.replica_box.specs.contracts.replica.Replica as replica
 use Rattle.themis_c.proofs.Values.{both, loose_good, loose_in}
-use Rattle.themis_c.proofs.Handles.{Heap, Row, Loose, handle_good, handle_out, held_either}
+use Rattle.themis_c.proofs.Handles.{Row, Loose, handle_good, handle_out}
+use Rattle.themis_c.proofs.Held.{Heap, held_either}
 use Rattle.themis_c.specs.contracts.handle.Handle.into_loose.{ended, clauses}
 use Rattle.themis_c.specs.contracts.handle.Handle.into_loose.Key.{name as #self}
 use Rattle.themis_c.proofs.handle.Handle.into_loose.Statement.{statement}
@@ -41,7 +42,7 @@ into_loose_spec 𝓤 𝓛 𝓜 𝓡 wired =
     proved_at 𝓛 ended hs c 𝓜 𝓡 (Goes-dropped 𝓛 0 (plain (λ _. Row)) yes (λ κs x f. refl), tt) #self fn (code.unfolded 𝓤 H 𝓜 𝓡 wired) (λ z are.
     let v = z.0.3.0 in let a = v.alloc in let Post : Val → SProp 𝓤 = (walk_of 𝓛 ended hs c).post z in let Run : List Val → SProp 𝓤 = λ ws. WpFn 𝓤 H 𝓣.C 𝓣.Λ fn ws Post in let Out : RattleType = type_at ended.signature.result z.0.0 in
     qed 𝓛 ((‵ ftrue ⊛ ‵ (owns (types_at ended.signature.params z.0.0) z.0.3 z.0.4)) ∷ raw ((c z.0.0 z.0.3).requires z.1) ∷ []) ∵ split ! $ move ! (1 ∷ []) $ fsplit ! $
-    handle_out ! v z.0.4.0 (λ h ws fits. held_either ! a v.at v.seat
+    handle_out ! v z.0.4.0 (λ h ws fits. held_either replica.the_row ! a v.at v.seat
     (λ at empty. let w : Val = both (ptr_val null_ptr) h in let is : z.0.4.0 ≡ w ∷ [] = ws ∙ (λ i. both (ptr_val (at i)) h ∷ []) in let Reported : Type 0 = v.seat ≡ None in
     suffices ! (Run (w ∷ [])) (subst (λ (us : List Val). ent 𝓤 (Run (w ∷ [])) (Run us)) (sym (λ i. is i ++ [])) (id⊢ 𝓤 (Run (w ∷ [])))) $ keep ! (2 ∷ []) $
     enter ! 𝓣.C 𝓣.Λ fn (w ∷ []) Post $ alloc_all ! (λ l. pass_all ! refl (handle_good null_ptr h fits, tt) $ let Ev = env fn.locals l in

@@ -22,7 +22,8 @@ use Rattle.std.proofs.alloc.Global.TheLaws as heap_laws
 use Rattle.std.proofs.raw_atomic.Walks.{proved_at, leaves}
 use Rattle.replica_box.specs.contracts.replica.Replica as replica
 use Rattle.themis_c.proofs.Values.{both, loose_good, loose_out}
-use Rattle.themis_c.proofs.Handles.{Heap, Row, Loose, handle_good, handle_in}
+use Rattle.themis_c.proofs.Handles.{Row, Loose, handle_good, handle_in}
+use Rattle.themis_c.proofs.Held.{Heap}
 use Rattle.themis_c.specs.contracts.handle.Handle.of.{ended, clauses}
 use Rattle.themis_c.specs.contracts.handle.Handle.of.Key.{name as #self}
 use Rattle.themis_c.proofs.handle.Handle.of.Statement.{statement}

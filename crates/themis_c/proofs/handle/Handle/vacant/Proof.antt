@@ -20,7 +20,8 @@ use Rattle.std.specs.Prelude.{None}
 use Rattle.std.proofs.alloc.Calls.{handle_tells}
 use Rattle.std.proofs.raw_atomic.Walks.{proved_at, leaves}
 use Rattle.themis_c.proofs.Values.{both}
-use Rattle.themis_c.proofs.Handles.{Heap, Row, al, handle_good, handle_in}
+use Rattle.themis_c.proofs.Handles.{Row, handle_good, handle_in}
+use Rattle.themis_c.proofs.Held.{Heap, al}
 use Rattle.themis_c.specs.contracts.handle.Handle.vacant.{ended, clauses}
 use Rattle.themis_c.specs.contracts.handle.Handle.vacant.Key.{name as #self}
 use Rattle.themis_c.proofs.handle.Handle.vacant.Statement.{statement}
