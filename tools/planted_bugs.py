@@ -103,6 +103,8 @@ BUGS = [
         "session > through", "true", "--sessions 3 --lose-store", seed=1),
     Bug("what waits at a cut is forgotten", "sessions/change.rs",
         "engine.resume(&kept, clients)", "engine.resume(&[], clients)", "--sessions 3", seed=1),
+    Bug("an end that is stuck stays so", "intake/mod.rs",
+        "self.is_ending && !is_stuck", "self.is_ending", "--sessions 3", seed=138),
 ]
 
 # What the simulator does not find, or only by luck: a test of the engine does.

@@ -167,18 +167,24 @@ pub fn event_of(body: &[u8]) -> Option<Event> {
 }
 
 #[cfg(test)]
-mod tests {
+pub(crate) mod tests {
     use super::*;
+
+    /// A log with records of these bodies.
+    pub(crate) fn log_of(header: usize, bodies: &[&[u8]]) -> Vec<u8> {
+        let mut log = vec![9; header];
+        for body in bodies {
+            log.extend((body.len() as u32).to_be_bytes());
+            log.extend([0; 8]);
+            log.extend(*body);
+            log.extend([0; 8]);
+        }
+        log
+    }
 
     #[test]
     fn records_of_a_log() {
-        let mut log = vec![9; 72];
-        for body in [&[3, 0, 0, 0, 7][..], &[2, 1, 5, 5]] {
-            log.extend((body.len() as u32).to_be_bytes());
-            log.extend([0; 8]);
-            log.extend(body);
-            log.extend([0; 8]);
-        }
+        let mut log = log_of(72, &[&[3, 0, 0, 0, 7], &[2, 1, 5, 5]]);
         let events: Vec<_> = records(&log, 72).filter_map(event_of).collect();
         let delivered = Delivered { from: 1, data: Bytes::from_static(&[5, 5]) };
         assert_eq!(events, [Event::Tick(7), Event::Delivered(delivered)]);

@@ -275,12 +275,13 @@ impl<C: Core> Engine<C> {
         let is_open = views.is_some_and(|it| it.view > self.core.commit);
         let given = wire::given_view(&it.data).map(|_| wire::given_block(&it.data));
         let is_there = |block: &&[u8]| !is_open || stored.contains(*block);
-        for block in given.filter(is_there) {
+        if let Some(block) = given.filter(is_there) {
             if !self.given.is_stored(block) {
                 self.given.store(it.from, block);
             }
         }
-        for block in wire::proposed_block(&it.data).filter(|it| is_open && stored.contains(*it)) {
+        let proposed = wire::proposed_block(&it.data);
+        if let Some(block) = proposed.filter(|it| is_open && stored.contains(*it)) {
             self.given.know(block);
         }
         Ok(())

@@ -62,9 +62,9 @@ impl<C: Core> Engine<C> {
     }
 
     /// A peer says that it has no part in the session.
-    pub(crate) fn let_in(&mut self, peer: u32) {
+    pub(crate) fn note_out(&mut self, peer: u32) {
         if let Some(session) = &mut self.session {
-            session.let_in(peer);
+            session.note_out(peer);
         }
     }
 

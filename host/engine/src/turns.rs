@@ -178,7 +178,7 @@ impl<C: Core> Engine<C> {
         self.turns.looked_at = Some(now);
         let mut out = self.service_arrivals(now)?;
         if !self.are_views_failing() {
-            out.extend(self.intake.arrivals(self.core.core.desk())?);
+            out.extend(self.intake.arrivals(self.core.core.desk(), self.core.commit)?);
         }
         Ok(out)
     }

@@ -2,6 +2,7 @@
 
 use super::*;
 use crate::clients::Answer;
+use crate::core::tests::log_of;
 use crate::engine::{Input, Output, Restored};
 use crate::frame::{Frame, Receipt, Standing};
 use crate::intake::played::{proposal_of, Call, PlayedDesk};
@@ -260,6 +261,25 @@ fn a_block_that_was_proposed_is_not_taken_again() {
     hears(&mut it, 2, message(&[&[2, 7], &other[3..]].concat()));
     work(&mut it, NOW);
     assert_eq!(it.core_mut().acted.len(), acted + 1);
+}
+
+/// A record was durable, and its turn refused the block, after another one of its group.
+#[test]
+fn a_logged_block_that_the_core_lacks_is_taken_after_a_restart() {
+    let place = Place { me: 0, n: 5, f: 1, views: 100 };
+    let give = [&[2, 7], &proposal()[3..]].concat();
+    for logged in [&proposal()[..], &give] {
+        let log = log_of(72, &[&[&[2, 1], logged].concat()]);
+        for (gives, taken) in [(vec![give.clone()], 0), (vec![], 1)] {
+            let core = Played { gives, ..Played::default() };
+            let restored = Restored { log: &log, header: 72, ..Restored::default() };
+            let mut it = Engine::open(place, Options::default(), core, restored, NOW).unwrap();
+            asks_for_blocks(&mut it, 2);
+            hears(&mut it, 2, message(&give));
+            work(&mut it, NOW);
+            assert_eq!(it.core_mut().acted.len(), taken);
+        }
+    }
 }
 
 fn burst() -> Vec<Tx> {

@@ -63,7 +63,7 @@ fn of_one_session(setup: &Setup) -> Result<Play, Failure> {
         secret: setup.secret()?,
         keys: setup.public_keys.clone(),
         log: EventLog::open(setup.log_path(), Disk::default())?,
-        head: json!({ "replica": setup.me(), "session": hex(&setup.session_digest()) }),
+        head: json!({ "replica": setup.me(), "session": hex(&setup.cluster_digest()) }),
         end: Map::new(),
     })
 }
@@ -115,7 +115,7 @@ fn of_many(
         keys: found.keys.iter().map(|it| it.unwrap_or([0; 60])).collect(),
         log: EventLog::open(logs.path(session), Disk::default())?,
         head: json!({
-            "replica": setup.me(), "cluster": hex(&setup.session_digest()), "session": session,
+            "replica": setup.me(), "cluster": hex(&setup.cluster_digest()), "session": session,
             "first": found.first, "digest": hex(&found.digest), "keys": keys,
         }),
         end: ends,

@@ -150,8 +150,8 @@ impl Setup {
         format!("n={n} f={f} p={p} q={q} views={views} height={height}")
     }
 
-    /// Names the session: peers with another digest are refused.
-    pub fn session_digest(&self) -> [u8; 32] {
+    /// Names the cluster: peers with another digest are refused.
+    pub fn cluster_digest(&self) -> [u8; 32] {
         let it = &self.cluster;
         let keys: Vec<_> = it.publics.iter().map(|key| format!("\"{key}\"")).collect();
         let after = it.after.as_ref().map_or_else(String::new, |it| format!(", {}", it.named()));

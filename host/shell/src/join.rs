@@ -88,7 +88,7 @@ pub fn make(setting: &Setting) -> Result<(), Failure> {
         write_new(&log, header, Readers::Owner).map_err(|it| failed(&log, &it))?;
         log
     };
-    let (made, name) = (made.display(), hex(&setup.session_digest()));
+    let (made, name) = (made.display(), hex(&setup.cluster_digest()));
     println!("made {made} for {} {name}", if follows { "cluster" } else { "session" });
     if let Some(After { cluster, session, position, .. }) = setup.cluster.after {
         println!("it continues cluster {cluster} after session {session}, at position {position}");

@@ -84,7 +84,7 @@ impl Predecessor {
         let store = store_path(path, me);
         let refused = |it: Error| store_failure(&store, &it);
         let list = Reader::open(&store, &owner(&setup)).map_err(refused)?;
-        let cluster = setup.session_digest();
+        let cluster = setup.cluster_digest();
         let carried = list.carried().map_err(refused)?;
         let found = Predecessor::at_its_end(store, list, &cluster)?;
         let session = found.after.session;

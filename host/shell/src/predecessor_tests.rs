@@ -95,10 +95,10 @@ fn a_new_cluster_goes_on_where_the_one_before_ended() {
     join_after(&new, 0, &old.folder(0)).unwrap();
     join_after(&new, 1, &copy).unwrap();
     let (own, other) = (setup(&new, 0), setup(&new, 1));
-    assert_eq!(own.session_digest(), other.session_digest());
+    assert_eq!(own.cluster_digest(), other.cluster_digest());
     let after = own.cluster.after.clone().unwrap();
     let end = store_of(&old, 0).last().unwrap();
-    assert_eq!(after.cluster, hex(&setup(&old, 0).session_digest()));
+    assert_eq!(after.cluster, hex(&setup(&old, 0).cluster_digest()));
     assert_eq!((after.session, after.position), (LAST, 2));
     assert_eq!((after.digest, own.cluster.session), (hex(&end.digest), LAST + 1));
     let keys: Vec<_> = own.public_keys.iter().copied().map(Some).collect();
@@ -127,7 +127,7 @@ fn another_end_is_another_cluster() {
     for change in changes {
         let mut other = setup();
         change(other.cluster.after.as_mut().unwrap());
-        assert_ne!(other.session_digest(), setup().session_digest());
+        assert_ne!(other.cluster_digest(), setup().cluster_digest());
     }
     let after = setup().cluster.after.unwrap();
     assert_eq!(after.check(LAST + 1), Ok(()));

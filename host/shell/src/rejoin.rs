@@ -62,7 +62,7 @@ pub fn make(wanted: &Wanted) -> Result<(), Failure> {
     let before = before.as_ref().map(Predecessor::before);
     recovery::create_again(&setup.folder, &owner, first, &line, &keys, before.as_ref())?;
     let made = store_path(&setup.folder, setup.me());
-    println!("made {} for cluster {}, with {whose}", made.display(), hex(&setup.session_digest()));
+    println!("made {} for cluster {}, with {whose}", made.display(), hex(&setup.cluster_digest()));
     Ok(())
 }
 

@@ -37,7 +37,7 @@ pub fn make(wanted: &Wanted) -> Result<(), Failure> {
     }
     let shared = toml::to_string(&cluster).map_err(|it| Failure::new(Exit::Fault, it))?;
     put(&setup.shared, &shared)?;
-    let (replica, name) = (part.replica, hex(&setup.session_digest()));
+    let (replica, name) = (part.replica, hex(&setup.cluster_digest()));
     println!("replica {replica} of cluster {name}: start this machine's replica again");
     Ok(())
 }
@@ -106,7 +106,7 @@ mod tests {
         for _ in 0..2 {
             replace(&five, &part(&five, 3)).unwrap(); // and once more, as after a crash
             let after = setup();
-            assert_eq!(after.session_digest(), before.session_digest());
+            assert_eq!(after.cluster_digest(), before.cluster_digest());
             assert_eq!(after.public_keys, before.public_keys);
             assert_eq!(after.peers[3], "127.0.0.1:5000".parse().unwrap());
             assert_eq!(after.clients[3], "127.0.0.1:5001".parse().unwrap());

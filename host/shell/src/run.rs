@@ -87,9 +87,9 @@ async fn serve<C: Conduct>(
 
     let (inbox, receiver) = Inbox::new();
     dial(setup, &trust, &shared, &inbox);
-    let session = setup.session_digest();
+    let cluster = setup.cluster_digest();
     let (links, slots) = (shared.links, shared.slots);
-    let peers = PeerPort::new(trust, inbox.clone(), links, session, slots);
+    let peers = PeerPort::new(trust, inbox.clone(), links, cluster, slots);
     let number = (!setup.config.sessions).then_some(setup.cluster.session);
     let clients = ClientPort::new(client_trust, inbox.clone(), shared.batches, number);
     let operator = OperatorPort::new(inbox.clone(), setup.config.allow_faults);
@@ -123,7 +123,7 @@ async fn serve<C: Conduct>(
 
 /// Connects to all peers, for ever.
 fn dial(setup: &Setup, trust: &Trust, shared: &Shared, inbox: &Inbox) {
-    let hello = Frame::Hello { session: setup.session_digest(), replica: setup.me() }.encode();
+    let hello = Frame::Hello { session: setup.cluster_digest(), replica: setup.me() }.encode();
     for peer in setup.place().others() {
         let (links, at) = (shared.links.clone(), setup.peers[peer as usize]);
         let (hello, trust, inbox) = (hello.clone(), trust.clone(), inbox.clone());

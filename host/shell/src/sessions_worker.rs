@@ -30,7 +30,7 @@ use crate::receipt_log::ReceiptLog;
 use crate::recovery::{self, Found, Lock};
 use crate::sys;
 use crate::timed::Spent;
-use crate::worker::{Shared, MAX_LOGGED_FAULTS, MAX_TAKEN};
+use crate::worker::{Shared, MAX_LOGGED_FAULTS, MAX_REQUESTS};
 
 /// The engine over sessions, and all that it touches.
 pub struct SessionsWorker<C: Conduct> {
@@ -66,7 +66,7 @@ struct Working<C: Conduct> {
 
 /// Whose store it is.
 pub fn owner(setup: &Setup) -> Identity {
-    Identity { cluster: setup.session_digest(), replica: setup.me() }
+    Identity { cluster: setup.cluster_digest(), replica: setup.me() }
 }
 
 /// What the engine knows of a store that was lost before this one was made. A number that nobody can
@@ -183,7 +183,7 @@ impl<C: Conduct> Working<C> {
 
     fn run(&mut self, requests: &Receiver<Request>) -> Result<(), Failure> {
         loop {
-            for request in requests.try_iter().take(MAX_TAKEN) {
+            for request in requests.try_iter().take(MAX_REQUESTS) {
                 if !self.take(request)? {
                     return Ok(());
                 }

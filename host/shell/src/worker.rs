@@ -29,7 +29,7 @@ use crate::seal_threads::SealThreads;
 use crate::timed::{Spent, Timed};
 
 /// Requests that are taken before turns are made: a flood of them stops no turn.
-pub const MAX_TAKEN: usize = 256;
+pub const MAX_REQUESTS: usize = 256;
 /// Bad frames of which the log has a line.
 pub const MAX_LOGGED_FAULTS: u64 = 20;
 
@@ -117,7 +117,7 @@ impl<C: Conduct> Worker<C> {
     /// Works until it is told to stop, or until something fails.
     pub fn run(mut self, inbox: &Receiver<Request>) -> Result<(), Failure> {
         loop {
-            for request in inbox.try_iter().take(MAX_TAKEN) {
+            for request in inbox.try_iter().take(MAX_REQUESTS) {
                 if !self.take(request)? {
                     return Ok(());
                 }

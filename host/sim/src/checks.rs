@@ -6,6 +6,7 @@ use std::time::Duration;
 
 use themis::{audit, Finding, Run};
 use themis_engine::core::Core;
+use themis_engine::setting::Options;
 use themis_engine::{Count, Time};
 
 use crate::chain::committed;
@@ -62,13 +63,23 @@ pub fn check_ticks(plan: &Plan, ticks: u64) -> Result<(), Violation> {
     Ok(())
 }
 
-/// Where nothing is faulty, no view fails: each up to the commit has a committed block. And views are
-/// few: some for each moment at which clients submit, and one for many transactions.
+/// How many views may fail although nothing is faulty. The first one after a pause takes four delays
+/// of the network. Where those are longer than the timeout, it may fail; and then the next one too.
+fn failing(plan: &Plan) -> usize {
+    if plan.longest_delay() * 4 > Options::default().timeout {
+        1 + plan.moments()
+    } else {
+        0
+    }
+}
+
+/// Where nothing is faulty, each view up to the commit has a committed block, but for few that fail.
+/// And views are few: some for each moment at which clients submit, and one for many transactions.
 fn check_views(plan: &Plan, blocks: usize, commit: u32) -> Result<(), Violation> {
     let most = VIEWS_OF_ALL + VIEWS_OF_MOMENT * plan.moments() + plan.count() / OF_FULL_VIEW;
     let text = if !plan.is_calm() {
         return Ok(());
-    } else if blocks < commit as usize {
+    } else if blocks + failing(plan) < commit as usize {
         format!("only {blocks} of {commit} views have a block although nothing is faulty")
     } else if blocks > most {
         format!("{blocks} views are used, and not {most} at most, although nothing is faulty")

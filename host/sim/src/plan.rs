@@ -245,6 +245,11 @@ impl Plan {
         self.faults.is_empty() && self.deeds.is_empty()
     }
 
+    /// What a frame takes at most, unless a replica is far away.
+    pub fn longest_delay(&self) -> Duration {
+        self.latency.mul_f64(1.5)
+    }
+
     /// At how many moments something is submitted.
     pub fn moments(&self) -> usize {
         self.submissions.iter().map(|it| it.at).collect::<BTreeSet<_>>().len()

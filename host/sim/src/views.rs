@@ -38,8 +38,7 @@ impl Views {
     /// A replica is in a view. Where no honest one was there before, n-2f of them were in the view
     /// before it: n-f have voted there, or have reported it, and of these f may lie.
     pub fn enters(&mut self, replica: u32, session: u32, view: u32) -> Result<(), Violation> {
-        let none = || vec![0; self.n as usize];
-        let reached = self.reached.entry(session).or_insert_with(none);
+        let reached = self.reached_in(session).clone();
         let least = |view| self.honest.iter().filter(|it| reached[**it as usize] >= view).count();
         let needed = (self.n - 2 * self.f) as usize;
         let (is_first, before) = (least(view) == 0, least(view.saturating_sub(1)));
@@ -48,8 +47,19 @@ impl Views {
                 "replica {replica} is in view {view}, and {before} honest ones were in the one before"
             )));
         }
-        reached[replica as usize] = reached[replica as usize].max(view);
+        self.restores(replica, session, view);
         Ok(())
+    }
+
+    /// A replica that starts is in the view to which its log leads. That counts a record that was
+    /// durable at a crash, though the replica never made its turn.
+    pub fn restores(&mut self, replica: u32, session: u32, view: u32) {
+        let reached = self.reached_in(session);
+        reached[replica as usize] = reached[replica as usize].max(view);
+    }
+
+    fn reached_in(&mut self, session: u32) -> &mut Vec<u32> {
+        self.reached.entry(session).or_insert_with(|| vec![0; self.n as usize])
     }
 
     /// A replica asks for a view, as the present one takes too long.
@@ -82,6 +92,14 @@ mod tests {
         assert!(it.enters(2, 7, 1).is_ok() && it.enters(0, 7, 2).is_ok());
         assert!(it.enters(3, 7, 2).is_ok(), "others were there");
         assert!(it.enters(3, 8, 2).is_err(), "of another session");
+    }
+
+    #[test]
+    fn a_log_may_lead_to_a_view() {
+        let mut it = Views::new(0..4, 5, 1);
+        it.restores(0, 7, 5);
+        assert!(it.enters(0, 7, 5).is_ok() && it.enters(1, 7, 5).is_ok(), "one was there");
+        assert!(it.enters(1, 7, 6).is_err(), "two honest ones of five");
     }
 
     #[test]

@@ -168,6 +168,11 @@ impl World {
             return Ok(());
         }
         node.start(now)?;
+        if let Some(process) = &mut node.process {
+            for (session, view) in process.driver.views() {
+                self.views.restores(replica, session, view);
+            }
+        }
         self.starts.starts(replica, now);
         if node.deeds.is_some() {
             self.queue.put(now + EVERY, replica, node.incarnation, Happening::Deed);

@@ -5,6 +5,7 @@
 //! - The core accepts a block in its turn, which draws the next local order. The library hears of the
 //!   block right before that, so that what it proposes makes room.
 //! - A session takes no more transactions than a trace. Near that, only what blocks propose arrives.
+//! - So it is once the session ends, except while nothing becomes final.
 //! - For tests, what was received and heard is noted.
 
 mod desk;
@@ -24,8 +25,12 @@ pub use desk::Desk;
 const MAX_ARRIVED: usize = 65_536;
 /// Of these, for what blocks propose.
 const MAX_NAMED: usize = 4096;
+/// Of these, for everything.
+pub const MAX_TAKEN: usize = MAX_ARRIVED - MAX_NAMED;
 /// The library lets no more arrive in one call.
 const MAX_ARRIVALS: usize = 480;
+/// Of a session that ends: once so many views were committed without anything final, others arrive.
+const STUCK_AFTER: u32 = 4;
 /// Blocks that wait at a start.
 const MAX_EARLY_BLOCKS: usize = 256;
 /// What one block can name, and more.
@@ -76,7 +81,7 @@ pub struct Intake {
     /// Transactions that arrived as exceptions.
     given: usize,
     /// Whether something may arrive that might not before.
-    is_stale: bool,
+    may_arrive: bool,
     /// Peers that reported their clocks: bit i for replica i.
     heard: u16,
     /// What came before receipts were stamped, by its source.
@@ -97,6 +102,10 @@ pub struct Intake {
     received: Vec<Tx>,
     /// The session ends.
     is_ending: bool,
+    /// Something became final since it was last asked what arrives.
+    has_finals: bool,
+    /// The committed view at which something last became final, or the session began to end.
+    final_at: u32,
     /// Only where a test wants them.
     notes: Option<Vec<Note>>,
 }
@@ -110,7 +119,7 @@ impl Intake {
             arrived: 0,
             finals: 0,
             given: 0,
-            is_stale: true,
+            may_arrive: true,
             heard: 0,
             early: Vec::new(),
             early_blocks: VecDeque::new(),
@@ -121,6 +130,8 @@ impl Intake {
             full: HashSet::new(),
             received: Vec::new(),
             is_ending: false,
+            has_finals: false,
+            final_at: 0,
             notes: is_noted.then(Vec::new),
         }
     }
@@ -166,10 +177,10 @@ impl Intake {
 
     /// Whether nothing more arrives in this session, but for what a block proposes.
     pub fn is_full(&self) -> bool {
-        self.arrived >= MAX_ARRIVED - MAX_NAMED
+        self.arrived >= MAX_TAKEN
     }
 
-    /// The session ends: from now on only what a block proposes arrives.
+    /// The session ends: from now on only what a block proposes arrives, unless the chain is stuck.
     pub fn end(&mut self) {
         self.is_ending = true;
     }
@@ -218,7 +229,8 @@ impl Intake {
 
     /// Final transactions leave.
     pub fn finalised(&mut self, desk: &mut impl Desk, txs: &[Tx]) -> Result<(), Error> {
-        self.is_stale = true;
+        self.may_arrive = true;
+        self.has_finals |= !txs.is_empty();
         self.finals += txs.len();
         desk.settle(txs)?;
         txs.iter().for_each(|it| self.forget(it));
@@ -242,7 +254,7 @@ impl Intake {
             self.keep_early(data);
             return Ok(());
         }
-        self.is_stale = true;
+        self.may_arrive = true;
         self.receiving(desk, |desk| desk.accepted(data))?;
         Ok(())
     }
@@ -263,18 +275,19 @@ impl Intake {
 
     /// The highest chain may have changed.
     pub fn chain_changed(&mut self) {
-        self.is_stale = true;
+        self.may_arrive = true;
     }
 
     // ---- what arrives
 
-    /// The transactions that arrive now, in this order.
-    pub fn arrivals(&mut self, desk: &mut impl Desk) -> Result<Vec<Tx>, Error> {
+    /// The transactions that arrive now, in this order, at this committed view.
+    pub fn arrivals(&mut self, desk: &mut impl Desk, commit: u32) -> Result<Vec<Tx>, Error> {
+        let is_stuck = self.is_stuck(commit);
         let has_room = self.arrived + MAX_ARRIVALS <= MAX_ARRIVED;
-        if !self.is_open || !has_room || !std::mem::take(&mut self.is_stale) {
+        if !self.is_open || !has_room || !std::mem::take(&mut self.may_arrive) {
             return Ok(Vec::new());
         }
-        let is_full = self.is_full() || self.is_ending;
+        let is_full = self.is_full() || self.is_ending && !is_stuck;
         let Arrivals { txs, given } = self.receiving(desk, |desk| {
             if is_full {
                 Ok(Arrivals { txs: desk.arrive_proposed()?, given: 0 })
@@ -285,6 +298,16 @@ impl Intake {
         self.arrived += txs.len();
         self.given += given;
         Ok(txs)
+    }
+
+    /// Whether the end of the session waits for what may not arrive. A list has the first 128 that
+    /// arrived and are not proposed. If those are on too few lists to be proposed, the marker of the
+    /// session, which arrived after them, is on none.
+    fn is_stuck(&mut self, commit: u32) -> bool {
+        if std::mem::take(&mut self.has_finals) || !self.is_ending {
+            self.final_at = commit;
+        }
+        commit >= self.final_at.saturating_add(STUCK_AFTER)
     }
 
     /// A call in which the library may receive what blocks name.

@@ -129,7 +129,7 @@ impl Intake {
                 self.received(it.tx);
             }
             if matches!(taken, Taken::New | Taken::Held | Taken::Final) {
-                self.is_stale = true;
+                self.may_arrive = true;
                 self.note(Note::Heard(peer, it.tx));
             }
         }
@@ -138,7 +138,7 @@ impl Intake {
 
     /// The library received one more.
     fn received(&mut self, tx: Tx) {
-        self.is_stale = true;
+        self.may_arrive = true;
         self.held.all += 1;
         self.held.waiting += 1;
         self.received.push(tx);
@@ -159,7 +159,7 @@ impl Intake {
     /// their clocks, or for a moment: else the clock would start again from 0, and what comes now
     /// would seem to have come before what waits everywhere.
     pub fn open(&mut self, desk: &mut impl Desk) -> Result<(), Error> {
-        (self.is_open, self.is_stale) = (true, true);
+        (self.is_open, self.may_arrive) = (true, true);
         for (source, receipts) in std::mem::take(&mut self.early) {
             if source == self.place.me {
                 for Receipt { tx, .. } in receipts {

@@ -42,7 +42,11 @@ impl Set {
     }
 
     fn take(&mut self) -> Vec<Tx> {
-        self.it.arrivals(&mut self.desk).unwrap()
+        self.take_at(0)
+    }
+
+    fn take_at(&mut self, commit: u32) -> Vec<Tx> {
+        self.it.arrivals(&mut self.desk, commit).unwrap()
     }
 
     fn calls(&mut self) -> Vec<Call> {
@@ -104,7 +108,7 @@ fn the_library_is_asked_what_arrives_only_where_something_has_changed() {
 #[test]
 fn a_session_takes_no_more_than_a_trace() {
     let mut set = open();
-    set.it.arrived = MAX_ARRIVED - MAX_NAMED - 1;
+    set.it.arrived = MAX_TAKEN - 1;
     set.submit(&txs(1, 200));
     assert_eq!(set.take().len(), ROOM);
     assert!(set.it.is_full());
@@ -115,6 +119,28 @@ fn a_session_takes_no_more_than_a_trace() {
     set.it.arrived = MAX_ARRIVED - MAX_ARRIVALS + 1;
     set.it.chain_changed();
     assert!(set.take().is_empty() && set.calls().is_empty());
+}
+
+#[test]
+fn a_session_that_ends_takes_more_only_while_it_is_stuck() {
+    let mut set = open();
+    let arrives_at = |set: &mut Set, commit: u32| {
+        set.it.chain_changed();
+        set.calls();
+        set.take_at(commit);
+        set.calls().contains(&Call::Arrive)
+    };
+    set.submit(&txs(1, 1));
+    assert!(arrives_at(&mut set, 20));
+    set.it.end();
+    assert!(!arrives_at(&mut set, 20) && !arrives_at(&mut set, 20 + STUCK_AFTER - 1));
+    assert!(arrives_at(&mut set, 20 + STUCK_AFTER) && arrives_at(&mut set, 30));
+    set.it.finalised(&mut set.desk, &txs(1, 1)).unwrap();
+    assert!(!arrives_at(&mut set, 30) && !arrives_at(&mut set, 30 + STUCK_AFTER - 1));
+    set.it.finalised(&mut set.desk, &[]).unwrap();
+    assert!(arrives_at(&mut set, 30 + STUCK_AFTER));
+    set.it.arrived = MAX_TAKEN;
+    assert!(!arrives_at(&mut set, 40));
 }
 
 #[test]

@@ -183,7 +183,7 @@ impl<C: Core> Sessions<C> {
     fn hear_out(&mut self, peer: u32, session: u32) {
         self.peers.hear(peer, session);
         if let (Stage::Running(engine), true) = (&mut self.stage, session == self.history.session) {
-            engine.let_in(peer);
+            engine.note_out(peer);
         }
     }
 

@@ -7,6 +7,7 @@ use std::time::Duration;
 use themis::{Error, Receipt, Standing, Tx};
 
 use crate::core::Desk;
+use crate::intake::MAX_TAKEN;
 use crate::sessions::doubles::{Doubles, Search, Searched};
 use crate::sessions::history::History;
 use crate::sessions::keys::{
@@ -25,8 +26,6 @@ const KEY_PATIENCE: Duration = Duration::from_secs(5);
 const REJOIN_AFTER: Duration = Duration::from_secs(60);
 /// Parts of keys of earlier sessions that are taken from one peer in a session.
 const MAX_STALE: usize = 8 * PARTS;
-/// Of the transactions that may arrive in a session; the session ends above three quarters of them.
-pub const MAX_TAKEN: usize = 61_440;
 
 /// One session of many.
 #[derive(Clone, Debug)]
@@ -157,7 +156,7 @@ impl Session {
     }
 
     /// A peer says that it has no part in this session.
-    pub fn let_in(&mut self, peer: u32) {
+    pub fn note_out(&mut self, peer: u32) {
         self.out |= 1 << peer;
     }
 
@@ -324,6 +323,7 @@ impl Session {
         if age > REJOIN_AFTER && self.can_let_others_in(count) {
             return true;
         }
+        // Above three quarters of what a session takes.
         let is_used = used.commit > views / 2 || used.arrived > MAX_TAKEN / 4 * 3;
         if !is_used && !self.is_end_wanted {
             return false;

@@ -71,7 +71,7 @@ fn the_keys_of_a_quorum_are_enough_after_a_while() {
 fn the_key_of_a_replica_that_is_out_does_not_stand_in_for_another() {
     let (mut it, mut desk) = (session(), PlayedDesk::default());
     let later = NOW + KEY_PATIENCE * 2;
-    it.let_in(2);
+    it.note_out(2);
     agree(&mut it, 0..4);
     for (used, now) in [(HALF, NOW), (HALF, later), (Used { commit: 76, arrived: 0 }, later)] {
         assert!(it.arrive(&mut desk, used, now).unwrap().is_empty());
@@ -105,7 +105,7 @@ fn a_session_without_one_of_the_replicas_ends_once_that_can_be_in_the_next() {
 fn a_session_of_which_a_replica_is_out_ends_after_a_while() {
     let (mut it, mut desk) = (session(), PlayedDesk::default());
     let later = NOW + REJOIN_AFTER * 2;
-    it.let_in(2);
+    it.note_out(2);
     agree(&mut it, 0..2);
     agree(&mut it, 3..4);
     assert!(it.arrive(&mut desk, FRESH, NOW).unwrap().is_empty());
@@ -116,7 +116,7 @@ fn a_session_of_which_a_replica_is_out_ends_after_a_while() {
     // Its own key is no substitute for that of another, and the next session needs a quorum.
     for (out, agreed) in [(vec![2], 0..4), (vec![3, 4], 0..3)] {
         let (mut it, mut desk) = (session(), PlayedDesk::default());
-        out.into_iter().for_each(|peer| it.let_in(peer));
+        out.into_iter().for_each(|peer| it.note_out(peer));
         agree(&mut it, agreed);
         for now in [NOW, later] {
             assert!(it.arrive(&mut desk, FRESH, now).unwrap().is_empty());
