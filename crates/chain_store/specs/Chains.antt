@@ -37,6 +37,10 @@ pub record IsOf (s : Stored) (kept : Kept) : Type 0 where
 abbrev pub AreOf : Stored → List Kept → Type 0
 AreOf s kept = All (IsOf s) kept
 
+-- The cache holds no more chain states than this, however many blocks are stored.
+abbrev pub IsBounded : List Kept → Type 0
+IsBounded kept = length kept ≤ 6
+
 -- Every chain leads back to the first block, in no more steps than there are stored blocks.
 pub record LeadBack (store : List Block) : Type 0 where
   pub first : block_at store first_digest ≡ None

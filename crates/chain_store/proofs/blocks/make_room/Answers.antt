@@ -8,5 +8,5 @@ are_without : (s : Stored) (kept left : List Kept) (place : ℕ) → left ≡ ta
 are_without s kept left place is are =
     rw is (All-append (IsOf s) (take place kept) (drop (place + 1) kept) (All-take (IsOf s) place kept are) (All-drop (IsOf s) (place + 1) kept are))
 
-pub returns-then-len-ge-MAX_KEPT : goal.returns-then-len-ge-MAX_KEPT
-returns-then-len-ge-MAX_KEPT c = λ s are. are_without s c.args.kept.now.items _ c.oldest_other-place.result c.remove.ensures.by_index.2 are
+pub returns-then-len-ge-MAX_KEPT-clause-of : goal.returns-then-len-ge-MAX_KEPT-clause-of
+returns-then-len-ge-MAX_KEPT-clause-of c = λ s are. are_without s c.args.kept.now.items _ c.oldest_other-place.result c.remove.ensures.by_index.2 are
