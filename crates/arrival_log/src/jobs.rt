@@ -6,8 +6,8 @@ use std::alloc::Global;
 
 /// Submits one transaction.
 #[derive(Drop)]
-pub struct Submit {
-    pub tx: Tx,
+pub(crate) struct Submit {
+    pub(crate) tx: Tx,
 }
 
 impl Job<Log> for Submit {
@@ -26,9 +26,9 @@ impl Job<Log> for Submit {
 
 /// Copies the entries from a position on.
 #[derive(Drop)]
-pub struct CopyFrom {
-    pub alloc: Global,
-    pub from: u32,
+pub(crate) struct CopyFrom {
+    pub(crate) alloc: Global,
+    pub(crate) from: u32,
 }
 
 impl Job<Log> for CopyFrom {

@@ -8,7 +8,7 @@ use seq_base::Tx;
 
 /// Rule 1: whether a list continues the arrival list after the first `from` arrivals, and `kept` counts these and the
 /// list.
-pub fn goes_on(arrivals: &[Tx], from: usize, kept: usize, list: &[Tx]) -> bool
+pub(crate) fn goes_on(arrivals: &[Tx], from: usize, kept: usize, list: &[Tx]) -> bool
     requires { from ≤ length arrivals.now }
     ensures { result ≡ goes_on arrivals.now from kept list.now }
 {

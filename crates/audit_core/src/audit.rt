@@ -48,7 +48,7 @@ use std::marker::Model;
 use wire_view::MessageView;
 
 /// The state after a prefix of a journal.
-pub struct Auditor<'a> {
+pub(crate) struct Auditor<'a> {
     alloc: Global,
     /// The replica whose journal it is.
     replica: u32,
@@ -98,7 +98,12 @@ impl<'a> Model for Auditor<'a> {
 }
 
 impl<'a> Auditor<'a> {
-    pub fn new(alloc: Global, setting: Setting, replica: u32, arrivals: &'a [Tx]) -> Auditor<'a>
+    pub(crate) fn new(
+        alloc: Global,
+        setting: Setting,
+        replica: u32,
+        arrivals: &'a [Tx],
+    ) -> Auditor<'a>
         ensures nothing { result ≡ nothing_audited setting replica arrivals.now }
         ensures audited { (by : Scale) → by.setting ≡ setting → by.replica ≡ replica → by.arrivals ≡ arrivals.now → HasAudited by [] result }
     {
@@ -121,7 +126,7 @@ impl<'a> Auditor<'a> {
     }
 
     /// The view of the commit.
-    pub fn commit_view(&self) -> u32
+    pub(crate) fn commit_view(&self) -> u32
         ensures view { result ≡ view_at self.now.store self.now.safety.committed }
         ensures reported { (by : Scale) (before : List Entry) → HasAudited by before self.now → result ≡ commit_view_of by.setting before }
     {
@@ -135,7 +140,7 @@ impl<'a> Auditor<'a> {
     }
 
     /// Whether these are the batches of the chain of the commit.
-    pub fn has_finals(&self, batches: &[TxList]) -> Result<bool, NoMemory>
+    pub(crate) fn has_finals(&self, batches: &[TxList]) -> Result<bool, NoMemory>
         ensures finals { IfOk result (λ same. same ≡ pointwise (pointwise tx_eq) batches.now (finals (chain_state_of (stored_of self.now) self.now.safety.committed))) }
         ensures reported { (by : Scale) (before : List Entry) → HasAudited by before self.now
             → IfOk result (λ same. same ≡ pointwise (pointwise tx_eq) batches.now (finals_of by.setting before)) }
@@ -153,7 +158,11 @@ impl<'a> Auditor<'a> {
 
     /// Checks one more entry, and returns the least rule that it breaks. Once a rule is broken, nothing is known of
     /// later entries.
-    pub fn audit<C: Checker>(&mut self, checker: &C, entry: &Entry) -> Result<Option<u32>, NoMemory>
+    pub(crate) fn audit<C: Checker>(
+        &mut self,
+        checker: &C,
+        entry: &Entry,
+    ) -> Result<Option<u32>, NoMemory>
         ensures rule { (by : Scale) (before : List Entry) → by.fits ≡ C.meaning checker.now → HasAudited by before self.old
             → IfOk result (λ rule. rule ≡ broken_by by before entry.now) }
         ensures goes_on { (by : Scale) (before : List Entry) → by.fits ≡ C.meaning checker.now → HasAudited by before self.old

@@ -8,7 +8,7 @@ use hotstuff_core::Safety;
 use seq_base::Bytes;
 
 /// Rule 4: whether the view of each vote is above those before it and above the lock's. Records each vote.
-pub fn vote_all(safety: &mut Safety, lock_view: u32, statements: &[Bytes]) -> bool
+pub(crate) fn vote_all(safety: &mut Safety, lock_view: u32, statements: &[Bytes]) -> bool
     ensures test { result ≡ rises_from lock_view safety.old.voted (votes_in statements.now) }
     ensures others { safety.new ≡ voted_in safety.new.voted safety.old }
     ensures voted { IsTrue result → safety.new.voted ≡ last_view safety.old.voted (votes_in statements.now) }

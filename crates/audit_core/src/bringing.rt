@@ -17,7 +17,7 @@ use wire_view::{BlockView, CertView, MessageView, VoteView};
 use wire_write::digest;
 
 /// What an entry with this message delivers; None if rule 2 forbids it.
-pub fn carried_on<C: Checker>(
+pub(crate) fn carried_on<C: Checker>(
     alloc: Global,
     blocks: &StoredBlocks,
     checker: &C,

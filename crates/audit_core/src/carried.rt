@@ -4,7 +4,7 @@ use seq_base::{Block, Digest};
 
 /// It is applied once all rules of the entry are checked.
 #[derive(Drop)]
-pub enum Carried {
+pub(crate) enum Carried {
     Nothing,
     /// The certificate of a NewView or an Ask, by its view and the block that it names.
     Cert {

@@ -14,7 +14,7 @@ use seq_base::Tx;
 use wire_view::{MessageView, read};
 
 /// The transactions that arrived with an event.
-pub fn arrived(entry: &Entry) -> &[Tx]
+pub(crate) fn arrived(entry: &Entry) -> &[Tx]
     ensures { result.now ≡ arrived_by entry.now.event }
 {
     match &entry.event {
@@ -25,7 +25,7 @@ pub fn arrived(entry: &Entry) -> &[Tx]
 }
 
 /// The message that an entry delivered, or None if it delivered nothing that reads as a message.
-pub fn delivered(entry: &Entry) -> Option<MessageView<'_>>
+pub(crate) fn delivered(entry: &Entry) -> Option<MessageView<'_>>
     ensures value { result ≡ message_in entry.now.event }
     ensures writable { IfSome result (λ message. IsWritable (message_of message)) }
 {
@@ -36,7 +36,7 @@ pub fn delivered(entry: &Entry) -> Option<MessageView<'_>>
     }
 }
 
-pub fn is_done(reason: Reason) -> bool
+pub(crate) fn is_done(reason: Reason) -> bool
     ensures { result ≡ is_done reason }
 {
     match reason {
@@ -57,7 +57,7 @@ pub fn is_done(reason: Reason) -> bool
 }
 
 /// Whether an entry is Done, or else has no arrivals and seals nothing.
-pub fn is_idle(entry: &Entry) -> bool
+pub(crate) fn is_idle(entry: &Entry) -> bool
     ensures { result ≡ is_idle entry.now }
 {
     is_done(entry.turned.reason)
@@ -65,7 +65,7 @@ pub fn is_idle(entry: &Entry) -> bool
 }
 
 /// Whether each statement that an entry seals names this replica.
-pub fn seals_its_own(replica: u32, entry: &Entry) -> bool
+pub(crate) fn seals_its_own(replica: u32, entry: &Entry) -> bool
     ensures { result ≡ are_own replica entry.now.turned.sealed }
 {
     are_own(replica, entry.turned.sealed.as_slice())

@@ -10,7 +10,7 @@ use std::alloc::Global;
 use std::collections::BTreeSet;
 use std::marker::Model;
 
-pub struct Marks {
+pub(crate) struct Marks {
     /// Pairs of a kind and a view.
     set: BTreeSet<(u32, u32)>,
 }
@@ -30,7 +30,7 @@ impl Model for Marks {
 }
 
 impl Marks {
-    pub fn none(alloc: Global) -> Marks
+    pub(crate) fn none(alloc: Global) -> Marks
         ensures { result ≡ [] }
     {
         Marks {
@@ -48,7 +48,7 @@ impl Marks {
     }
 
     /// Adds the kinds and views of statements, and returns whether each is new.
-    pub fn insert_all(&mut self, statements: &[Bytes]) -> Result<bool, NoMemory>
+    pub(crate) fn insert_all(&mut self, statements: &[Bytes]) -> Result<bool, NoMemory>
         ensures are_new { IfOk result (λ new. new ≡ are_new self.old (marks_in statements.now)) }
         ensures marks { IfOk result (λ new. new ≡ true → self.new ≡ marked self.old (marks_in statements.now)) }
     {

@@ -10,7 +10,7 @@ use wire_write::order_bytes;
 
 /// Rule 3: whether a statement is no order, or the spelling of the order that is drawn from what is known, for the
 /// replica, view and parent that it names.
-pub fn may_seal(
+pub(crate) fn may_seal(
     alloc: Global,
     blocks: &StoredBlocks,
     known: &[Tx],

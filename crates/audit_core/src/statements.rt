@@ -12,7 +12,7 @@ use seq_base::{Bytes, Digest};
 
 /// The kind and the view of a statement, if its kind is one of the five.
 #[tactic(auto, using(crate::proofs::Rest::mark_is))]
-pub fn mark_of(statement: &[u8]) -> Option<(u32, u32)>
+pub(crate) fn mark_of(statement: &[u8]) -> Option<(u32, u32)>
     ensures { option_map (λ m. mark m.0 m.1) result ≡ mark_of statement.now }
 {
     let kind = byte_at(statement, 0);
@@ -24,7 +24,7 @@ pub fn mark_of(statement: &[u8]) -> Option<(u32, u32)>
 
 /// The view and the digest of a vote.
 #[tactic(auto, using(crate::proofs::Rest::ballot_is))]
-pub fn ballot_in(statement: &[u8]) -> Option<(u32, &[u8])>
+pub(crate) fn ballot_in(statement: &[u8]) -> Option<(u32, &[u8])>
     ensures { option_map (λ v. ballot v.0 (record { 0 = v.1.now })) result ≡ ballot_in statement.now }
 {
     if byte_at(statement, 0) != VOTE {
@@ -33,21 +33,21 @@ pub fn ballot_in(statement: &[u8]) -> Option<(u32, &[u8])>
     Some((view_of(statement), following(statement, 6)))
 }
 
-pub fn is_order(statement: &[u8]) -> bool
+pub(crate) fn is_order(statement: &[u8]) -> bool
     ensures { result ≡ (get_or statement.now 0 0 == ORDER) }
 {
     byte_at(statement, 0) == ORDER
 }
 
 /// The replica that a statement names after its kind, or 0.
-pub fn replica_of(statement: &[u8]) -> u32
+pub(crate) fn replica_of(statement: &[u8]) -> u32
     ensures { result ≡ replica_named statement.now }
 {
     u32::from(byte_at(statement, 1))
 }
 
 /// Whether each statement names this replica.
-pub fn are_own(replica: u32, statements: &[Bytes]) -> bool
+pub(crate) fn are_own(replica: u32, statements: &[Bytes]) -> bool
     ensures { result ≡ are_own replica statements.now }
 {
     let mut statements = statements.iter();
@@ -57,7 +57,7 @@ pub fn are_own(replica: u32, statements: &[Bytes]) -> bool
 /// The view that a statement names after its kind and its replica: the number in the four bytes there, where missing
 /// bytes count as 0.
 #[tactic(auto, using(crate::proofs::Rest::four_bytes))]
-pub fn view_of(statement: &[u8]) -> u32
+pub(crate) fn view_of(statement: &[u8]) -> u32
     ensures { result ≡ view_named statement.now }
 {
     u32::from_be_bytes([
@@ -69,7 +69,7 @@ pub fn view_of(statement: &[u8]) -> u32
 }
 
 /// The parent that a local order names, if the statement is long enough.
-pub fn parent_of(statement: &[u8]) -> Option<Digest>
+pub(crate) fn parent_of(statement: &[u8]) -> Option<Digest>
     ensures long { IfSome result (λ parent. parent ≡ parent_named statement.now) }
     ensures short { IfNone result (length statement.now < 38) }
 {

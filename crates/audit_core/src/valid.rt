@@ -11,14 +11,22 @@ use seq_base::{Block, Digest, NoMemory};
 use wire_view::{BlockView, CertView, OrderView, VoteView};
 
 /// Whether a certificate is good and names a stored block with that block's view.
-pub fn may_take_cert<C: Checker>(blocks: &StoredBlocks, checker: &C, cert: &CertView<'_>) -> bool
+pub(crate) fn may_take_cert<C: Checker>(
+    blocks: &StoredBlocks,
+    checker: &C,
+    cert: &CertView<'_>,
+) -> bool
     ensures { result ≡ cert_on (C.meaning checker.now) blocks.now cert.now }
 {
     is_stored_at(blocks, &cert.block(), cert.view()) && cert_ok(blocks.setting(), cert, checker)
 }
 
 /// Whether a vote is for a stored block in its view, and its seal fits.
-pub fn may_take_vote<C: Checker>(blocks: &StoredBlocks, checker: &C, vote: &VoteView<'_>) -> bool
+pub(crate) fn may_take_vote<C: Checker>(
+    blocks: &StoredBlocks,
+    checker: &C,
+    vote: &VoteView<'_>,
+) -> bool
     ensures { result ≡ ballot_on (C.meaning checker.now) blocks.now vote.now }
 {
     is_stored_at(blocks, &vote.block(), vote.view())
@@ -26,7 +34,7 @@ pub fn may_take_vote<C: Checker>(blocks: &StoredBlocks, checker: &C, vote: &Vote
 }
 
 /// Whether a block, which was copied out of its view, is valid after the stored blocks.
-pub fn may_take_block<C: Checker>(
+pub(crate) fn may_take_block<C: Checker>(
     blocks: &StoredBlocks,
     checker: &C,
     view: &BlockView<'_>,
@@ -53,7 +61,7 @@ fn is_shaped<C: Checker>(blocks: &StoredBlocks, checker: &C, view: &BlockView<'_
 }
 
 /// The view of a stored block, or 0.
-pub fn view_at(blocks: &StoredBlocks, block: &Digest) -> u32
+pub(crate) fn view_at(blocks: &StoredBlocks, block: &Digest) -> u32
     ensures { result ≡ view_at blocks.now.blocks block.now }
 {
     blocks.store().view_of(block).unwrap_or(0)

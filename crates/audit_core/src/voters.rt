@@ -9,7 +9,7 @@ use std::alloc::Global;
 use std::collections::BTreeMap;
 use std::marker::Model;
 
-pub struct Voters {
+pub(crate) struct Voters {
     by_block: BTreeMap<Digest, ReplicaSet>,
 }
 
@@ -29,7 +29,7 @@ impl Model for Voters {
 }
 
 impl Voters {
-    pub fn none(alloc: Global) -> Voters
+    pub(crate) fn none(alloc: Global) -> Voters
         ensures { result ≡ [] }
     {
         Voters {
@@ -47,7 +47,7 @@ impl Voters {
     }
 
     /// Adds a voter for a block, unless it is there. Returns the count of the block's voters.
-    pub fn count(&mut self, replica: u32, block: Digest) -> Result<u32, NoMemory>
+    pub(crate) fn count(&mut self, replica: u32, block: Digest) -> Result<u32, NoMemory>
         requires { replica < 32 }
         ensures count { IfOk result (λ count. count ≡ length (add_voter replica (voters_of self.old block))) }
         ensures voters { OnOk result (self.new ≡ counted replica block self.old) }

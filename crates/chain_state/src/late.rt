@@ -10,7 +10,7 @@ use std::collections::HashSet;
 use std::marker::Model;
 
 /// The late lists of a block, and the set of what they list.
-pub struct LateLists {
+pub(crate) struct LateLists {
     lists: Vec<TxList>,
     listed: HashSet<Tx>,
 }
@@ -37,21 +37,21 @@ impl Model for LateLists {
 }
 
 impl LateLists {
-    pub fn of(alloc: Global, lists: Vec<TxList>) -> Result<LateLists, NoMemory>
+    pub(crate) fn of(alloc: Global, lists: Vec<TxList>) -> Result<LateLists, NoMemory>
         ensures { IfOk result (λ late. late ≡ lists.items) }
     {
         let listed = listed_in(alloc, &lists)?;
         Ok(LateLists { lists, listed })
     }
 
-    pub fn as_slice(&self) -> &[TxList]
+    pub(crate) fn as_slice(&self) -> &[TxList]
         ensures { result.now ≡ self.now }
     {
         self.lists.as_slice()
     }
 
     /// Whether any of these is listed.
-    pub fn lists_any(&self, txs: &[Tx]) -> bool
+    pub(crate) fn lists_any(&self, txs: &[Tx]) -> bool
         ensures { result ≡ list_any (λ t. list_any (holds t) self.now) txs.now }
     {
         for tx in txs {

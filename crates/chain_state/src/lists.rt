@@ -5,7 +5,7 @@ use seq_base::{Block, NoMemory, TxList};
 use std::alloc::Global;
 
 /// The fresh lists of a block, in the order of its orders.
-pub fn fresh_lists(alloc: Global, block: &Block) -> Result<Vec<TxList>, NoMemory>
+pub(crate) fn fresh_lists(alloc: Global, block: &Block) -> Result<Vec<TxList>, NoMemory>
     ensures { IfOk result (λ lists. lists.items ≡ fresh_of block.now) }
 {
     let orders = block.orders.as_slice();
@@ -17,7 +17,7 @@ pub fn fresh_lists(alloc: Global, block: &Block) -> Result<Vec<TxList>, NoMemory
 }
 
 /// The late lists of a block, in the order of its orders.
-pub fn late_lists(alloc: Global, block: &Block) -> Result<Vec<TxList>, NoMemory>
+pub(crate) fn late_lists(alloc: Global, block: &Block) -> Result<Vec<TxList>, NoMemory>
     ensures { IfOk result (λ lists. lists.items ≡ late_of block.now) }
 {
     let orders = block.orders.as_slice();
@@ -28,7 +28,7 @@ pub fn late_lists(alloc: Global, block: &Block) -> Result<Vec<TxList>, NoMemory>
     Ok(lists)
 }
 
-pub fn copied(alloc: Global, list: &TxList) -> Result<TxList, NoMemory>
+pub(crate) fn copied(alloc: Global, list: &TxList) -> Result<TxList, NoMemory>
     ensures { IfOk result (λ copy. copy ≡ list.now) }
 {
     let items = Vec::from_slice(alloc, list.as_slice())?;

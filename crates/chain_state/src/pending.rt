@@ -10,7 +10,7 @@ use std::alloc::Global;
 use std::marker::Model;
 
 /// The graph of an incomplete proposal, and which of its transactions wait.
-pub struct Pending {
+pub(crate) struct Pending {
     graph: Proposal,
     waiting: TxList,
 }
@@ -36,7 +36,7 @@ impl Model for Pending {
 }
 
 impl Pending {
-    pub fn of(alloc: Global, graph: Proposal) -> Result<Pending, NoMemory>
+    pub(crate) fn of(alloc: Global, graph: Proposal) -> Result<Pending, NoMemory>
         requires { is_complete graph ≡ false }
         ensures { IfOk result (λ pending. pending ≡ graph) }
     {
@@ -45,7 +45,7 @@ impl Pending {
     }
 
     /// Its transactions that belong to a missing pair.
-    pub fn waiting(&self) -> &[Tx]
+    pub(crate) fn waiting(&self) -> &[Tx]
         ensures waiting { result.now ≡ waiting_of self.now }
         ensures graph { IsGraph self.now }
         ensures incomplete { is_complete self.now ≡ false }
@@ -54,7 +54,7 @@ impl Pending {
     }
 
     /// The graph with the edges that the late lists give.
-    pub fn updated(
+    pub(crate) fn updated(
         &self,
         alloc: Global,
         setting: &Setting,

@@ -8,7 +8,7 @@ use seq_base::{NoMemory, Tx};
 use std::collections::HashSet;
 
 /// Inserts each of these. Where the set has room for them, the call does not fail.
-pub fn insert_all(set: &mut HashSet<Tx>, txs: &[Tx]) -> Result<(), NoMemory>
+pub(crate) fn insert_all(set: &mut HashSet<Tx>, txs: &[Tx]) -> Result<(), NoMemory>
     ensures inserted { OnOk result ((t : Tx) → is_among set.new.keys t ≡ (is_among set.old.keys t || holds t txs.now)) }
     ensures room { length txs.now ≤ spare set.old → IsOk result }
 {

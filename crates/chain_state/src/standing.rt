@@ -16,7 +16,7 @@ use std::collections::HashSet;
 use std::sync::Arc;
 
 /// The current state of a proposal. It is shared between the state of a block and those of its children.
-pub enum Standing {
+pub(crate) enum Standing {
     /// A complete proposal: its batches, and no edges.
     Closed(Arc<BatchList>),
     /// An incomplete proposal: its graph.
@@ -34,7 +34,7 @@ impl Drop for Standing {
 
 impl Standing {
     /// Closes a proposal that is complete.
-    pub fn of(alloc: Global, graph: Proposal) -> Result<Standing, NoMemory>
+    pub(crate) fn of(alloc: Global, graph: Proposal) -> Result<Standing, NoMemory>
         ensures { IfOk result (λ standing. shown standing ≡ stage_of graph) }
     {
         match batches(alloc, &graph) {
@@ -49,7 +49,7 @@ impl Standing {
 
     /// The proposal after one more block. A pending proposal with a transaction that is listed late takes the edges
     /// of the late lists. Each other one is shared.
-    pub fn step(
+    pub(crate) fn step(
         &self,
         alloc: Global,
         setting: &Setting,
@@ -70,7 +70,7 @@ impl Standing {
     }
 
     /// A second handle to the same proposal.
-    pub fn share(&self) -> Result<Standing, NoMemory>
+    pub(crate) fn share(&self) -> Result<Standing, NoMemory>
         ensures { IfOk result (λ standing. shown standing ≡ shown self.now) }
     {
         Ok(match self {
@@ -80,7 +80,7 @@ impl Standing {
     }
 
     /// Whether it is incomplete.
-    pub fn is_pending(&self) -> bool
+    pub(crate) fn is_pending(&self) -> bool
         ensures { result ≡ is_pending (shown self.now) }
     {
         match self {
@@ -90,7 +90,7 @@ impl Standing {
     }
 
     /// Inserts its transactions that wait.
-    pub fn insert_waiting(&self, set: &mut HashSet<Tx>) -> Result<(), NoMemory>
+    pub(crate) fn insert_waiting(&self, set: &mut HashSet<Tx>) -> Result<(), NoMemory>
         ensures { OnOk result ((t : Tx) → is_among set.new.keys t ≡ (is_among set.old.keys t || stage_waits t (shown self.now))) }
     {
         match self {

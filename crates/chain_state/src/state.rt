@@ -112,7 +112,7 @@ impl ChainState {
     }
 
     /// Whether no transaction belongs to a missing pair of the chain. Takes no memory.
-    pub fn none_waits(&self) -> bool
+    pub(crate) fn none_waits(&self) -> bool
         ensures { IsTrue result → (t : Tx) → is_waiting self.now t ≡ false }
     {
         self.waiting.is_empty()

@@ -14,13 +14,13 @@ use std::collections::HashSet;
 
 /// The proposal at an index, after a block.
 #[derive(Drop)]
-pub struct Stepped {
-    pub place: usize,
-    pub standing: Standing,
+pub(crate) struct Stepped {
+    pub(crate) place: usize,
+    pub(crate) standing: Standing,
 }
 
 /// The indices of those that are still pending, and the given index where the block's own is pending.
-pub fn pending_places(
+pub(crate) fn pending_places(
     alloc: Global,
     stepped: &[Stepped],
     place: usize,
@@ -41,7 +41,7 @@ pub fn pending_places(
 }
 
 /// The transactions that wait, including those of the block's own proposal.
-pub fn waiting_set(
+pub(crate) fn waiting_set(
     alloc: Global,
     stepped: &[Stepped],
     own: &Standing,
@@ -57,7 +57,7 @@ pub fn waiting_set(
 }
 
 /// Stores each at its index. Takes no memory.
-pub fn put_back(proposals: &mut [Standing], mut stepped: Vec<Stepped>)
+pub(crate) fn put_back(proposals: &mut [Standing], mut stepped: Vec<Stepped>)
     requires { AreWithin (map placed stepped.items) (map shown proposals.old) }
     ensures { map shown proposals.new ≡ put_all (map placed stepped.items) (map shown proposals.old) }
 {

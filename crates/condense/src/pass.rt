@@ -13,16 +13,16 @@ use seq_base::NoMemory;
 /// the number of groups on the path, and the number of components. The groups of the path follow one another in
 /// `path`, the top group last.
 #[derive(Drop)]
-pub struct Pass {
-    pub places: Vec<Place>,
-    pub path: Vec<u32>,
-    pub depth: u32,
-    pub count: u32,
+pub(crate) struct Pass {
+    pub(crate) places: Vec<Place>,
+    pub(crate) path: Vec<u32>,
+    pub(crate) depth: u32,
+    pub(crate) count: u32,
 }
 
 impl Pass {
     /// Takes a step.
-    pub fn take(&mut self, step: Step) -> Result<(), NoMemory>
+    pub(crate) fn take(&mut self, step: Step) -> Result<(), NoMemory>
         requires fits { Fits self.old step }
         requires suits { Suits self.old.places.items self.old.depth step }
         requires stack { IsStack self.old.places.items self.old.depth self.old.path.items }

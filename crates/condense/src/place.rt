@@ -3,7 +3,7 @@ ghost use Rattle.condense.specs.Places.{IsSettled, joined, level_of, number_of};
 
 /// Where the pass has put a vertex.
 #[derive(Clone, Copy, PartialEq, Eq)]
-pub enum Place {
+pub(crate) enum Place {
     /// Not seen so far.
     Unseen,
     /// In the group of the path at this level, with edges into it still to be followed.
@@ -17,7 +17,7 @@ pub enum Place {
 impl Place {
     /// Whether an edge from here into the group at this level needs no further step: it comes from a component or
     /// from the group itself.
-    pub fn is_settled(self, level: u32) -> bool
+    pub(crate) fn is_settled(self, level: u32) -> bool
         ensures { IsTrue result ↔ IsSettled level self }
     {
         match self {
@@ -28,7 +28,7 @@ impl Place {
     }
 
     /// Whether it is on the path, at this level.
-    pub fn is_at(self, level: u32) -> bool
+    pub(crate) fn is_at(self, level: u32) -> bool
         ensures { IsTrue result ↔ (level_of self ≡ Some level) }
     {
         match self {
@@ -38,7 +38,7 @@ impl Place {
     }
 
     /// The place after the groups from this level on are joined.
-    pub fn joined(self, level: u32) -> Place
+    pub(crate) fn joined(self, level: u32) -> Place
         ensures { result ≡ joined level self }
     {
         match self {
@@ -49,7 +49,7 @@ impl Place {
     }
 
     /// The number of the component, or 0 where there is none so far.
-    pub fn number(self) -> u32
+    pub(crate) fn number(self) -> u32
         ensures { result ≡ number_of self }
     {
         match self {

@@ -10,7 +10,7 @@ use majority_graph::{Edge, Proposal};
 
 /// The next step of the pass.
 #[derive(Clone, Copy, PartialEq, Eq)]
-pub enum Step {
+pub(crate) enum Step {
     /// An unseen vertex becomes a new group on top.
     Enter(u32),
     /// All edges into this vertex of the top group are settled.
@@ -23,7 +23,7 @@ pub enum Step {
 
 /// The next step where the path has this many groups, or None at the end. For each vertex, `resume` is where the
 /// search for edges into it continues. Takes no memory.
-pub fn next_step(
+pub(crate) fn next_step(
     graph: &Proposal,
     places: &[Place],
     path: &[u32],

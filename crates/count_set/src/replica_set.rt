@@ -5,7 +5,7 @@ ghost use Rattle.count_set.specs.Sets.{is_among, with_replica};
 use std::marker::Model;
 
 /// How many replicas a set has room for.
-pub const MAX_MEMBERS: u32 = 32;
+const MAX_MEMBERS: u32 = 32;
 
 /// A set of replicas below 32. Contracts see it as the ascending list of its members.
 #[derive(Clone, Copy)]

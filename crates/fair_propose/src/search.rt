@@ -11,7 +11,11 @@ use walks::{Mark, next_open};
 
 /// For each vertex, whether a walk leads from it to a goal. A pair is weighed only if one of its vertices was reached
 /// and the other was not.
-pub fn leading_to(alloc: Global, ranking: &Ranking, goals: &[bool]) -> Result<Vec<bool>, NoMemory>
+pub(crate) fn leading_to(
+    alloc: Global,
+    ranking: &Ranking,
+    goals: &[bool],
+) -> Result<Vec<bool>, NoMemory>
     requires graph { IsGraph ranking.now }
     requires each { length goals.now ≡ length ranking.now.vertices }
     ensures each { IfOk result (λ leading. length leading.items ≡ length ranking.now.vertices) }

@@ -18,12 +18,12 @@ pub fn waiting(alloc: Global, proposal: &Proposal) -> Result<TxList, NoMemory>
 
 /// The waiting transactions, and for each vertex how many of them come before it.
 #[derive(Drop)]
-pub struct Ranked {
-    pub txs: Vec<Tx>,
-    pub ranks: Vec<u32>,
+pub(crate) struct Ranked {
+    pub(crate) txs: Vec<Tx>,
+    pub(crate) ranks: Vec<u32>,
 }
 
-pub fn rank_waiting(alloc: Global, proposal: &Proposal) -> Result<Ranked, NoMemory>
+pub(crate) fn rank_waiting(alloc: Global, proposal: &Proposal) -> Result<Ranked, NoMemory>
     ensures counted { IfOk result (λ ranked. AreCounted proposal.now (length proposal.now.vertices) ranked.txs.items ranked.ranks.items) }
     ensures graph { IsGraph proposal.now }
 {

@@ -15,7 +15,7 @@ use wire_write::write_message;
 /// Whether a deed of a kind applies to a replica's send of a view. A deed of view 0 applies to every view, and to
 /// messages that belong to none.
 #[tactic(auto, unfolding(crate::specs::Deeds::holds_for))]
-pub fn holds(deeds: &[Deed], replica: u32, kind: DeedKind, view: Option<u32>) -> bool
+pub(crate) fn holds(deeds: &[Deed], replica: u32, kind: DeedKind, view: Option<u32>) -> bool
     ensures { result ≡ holds_for deeds.now replica kind view }
 {
     deeds
@@ -46,7 +46,7 @@ fn covers(of_deed: u32, view: Option<u32>) -> bool
 
 /// The view of a message: the block's for a proposal, none for Fetch and Give.
 #[tactic(auto, unfolding(crate::specs::Deeds::view_in))]
-pub fn view_of(bytes: &[u8]) -> Option<u32>
+pub(crate) fn view_of(bytes: &[u8]) -> Option<u32>
     ensures { result ≡ view_in bytes.now }
 {
     match read(bytes) {
@@ -61,7 +61,7 @@ pub fn view_of(bytes: &[u8]) -> Option<u32>
 
 /// The message that the bytes spell, if they spell one.
 #[tactic(auto, unfolding(crate::specs::Deeds::message_in))]
-pub fn message_of(alloc: Global, bytes: &[u8]) -> Result<Option<Message>, NoMemory>
+pub(crate) fn message_of(alloc: Global, bytes: &[u8]) -> Result<Option<Message>, NoMemory>
     ensures { IfOk result (λ message. message ≡ message_in bytes.now) }
 {
     match read(bytes) {
@@ -71,7 +71,7 @@ pub fn message_of(alloc: Global, bytes: &[u8]) -> Result<Option<Message>, NoMemo
 }
 
 /// The bytes of a message, as a send has them.
-pub fn packet_of(alloc: Global, message: Message) -> Result<Packet, NoMemory>
+pub(crate) fn packet_of(alloc: Global, message: Message) -> Result<Packet, NoMemory>
     ensures { IfOk result (λ packet. packet ≡ message_spelling message) }
 {
     Packet::of(written(alloc, message)?)
@@ -85,7 +85,10 @@ fn written(alloc: Global, message: Message) -> Result<Bytes, NoMemory>
 }
 
 /// A seal of the bytes, or None if the sealer is spent.
-pub fn seal_if_left<S: Sealer>(sealer: &mut S, bytes: &[u8]) -> Result<Option<Seal>, NoMemory>
+pub(crate) fn seal_if_left<S: Sealer>(
+    sealer: &mut S,
+    bytes: &[u8],
+) -> Result<Option<Seal>, NoMemory>
     ensures value { IfOk result (λ seal. SealsBy S.replica S.capacity S.gives S.made sealer.old sealer.new (λ s. sealed s bytes.now (λ seal. seal)) seal) }
     ensures sealer { SealsOn S.replica S.capacity S.gives S.made sealer.old sealer.new }
 {

@@ -14,7 +14,7 @@ const FORGED: Digest = Digest([0xff; 32]);
 
 /// The sends, with a forged vote after each vote.
 #[tactic(auto, using(std::proofs::lemmas::List::nil_from_length))]
-pub fn forge(
+pub(crate) fn forge(
     alloc: Global,
     deeds: &[Deed],
     setting: &Setting,

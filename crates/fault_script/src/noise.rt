@@ -11,7 +11,7 @@ use std::alloc::Global;
 
 /// The sends that are not silenced, each after its first half if there is noise.
 #[tactic(auto, using(std::proofs::lemmas::List::nil_from_length))]
-pub fn noise(
+pub(crate) fn noise(
     alloc: Global,
     deeds: &[Deed],
     own: u32,

@@ -14,7 +14,7 @@ use wire_write::order_bytes;
 
 /// What a send becomes, or None if the sealer is spent.
 #[tactic(auto, unfolding(crate::specs::Twists::reverse_of))]
-pub fn reverse<S: Sealer>(
+pub(crate) fn reverse<S: Sealer>(
     alloc: Global,
     deeds: &[Deed],
     sealer: &mut S,
@@ -102,7 +102,7 @@ fn reversed_list(list: TxList) -> TxList
 }
 
 /// A local order, sealed anew.
-pub fn resealed<S: Sealer>(
+pub(crate) fn resealed<S: Sealer>(
     alloc: Global,
     sealer: &mut S,
     order: LocalOrder,

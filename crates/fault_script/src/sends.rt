@@ -75,7 +75,11 @@ fn all_reversed<S: Sealer>(
 }
 
 /// A message that replaces a send.
-pub fn in_place(alloc: Global, send: Outgoing, message: Message) -> Result<Outgoing, NoMemory>
+pub(crate) fn in_place(
+    alloc: Global,
+    send: Outgoing,
+    message: Message,
+) -> Result<Outgoing, NoMemory>
     ensures { IfOk result (λ out. out ≡ in_place send message) }
 {
     Ok(Outgoing {

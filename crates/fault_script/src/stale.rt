@@ -13,7 +13,7 @@ use wire_write::new_view_statement;
 
 /// What a send becomes, or None if the sealer is spent.
 #[tactic(auto, unfolding(crate::specs::Twists::stale_of))]
-pub fn stale<S: Sealer>(
+pub(crate) fn stale<S: Sealer>(
     alloc: Global,
     deeds: &[Deed],
     sealer: &mut S,

@@ -17,7 +17,7 @@ use wire_write::propose_statement;
 
 /// What replaces a proposal.
 #[derive(Drop)]
-pub enum Second {
+pub(crate) enum Second {
     /// Nothing is changed.
     Same,
     Block(Packet),
@@ -27,14 +27,14 @@ pub enum Second {
 
 /// A proposal and its replacement, so that it is sealed once.
 #[derive(Drop)]
-pub struct Made {
-    pub first: Packet,
-    pub second: Second,
+pub(crate) struct Made {
+    pub(crate) first: Packet,
+    pub(crate) second: Second,
 }
 
 /// The sends. Proposals to the upper half of the replicas are replaced.
 #[tactic(auto, using(std::proofs::lemmas::List::nil_from_length))]
-pub fn two_blocks<S: Sealer>(
+pub(crate) fn two_blocks<S: Sealer>(
     alloc: Global,
     deeds: &[Deed],
     setting: &Setting,

@@ -10,8 +10,8 @@ use std::alloc::Global;
 /// The lower tree that grows while the tree before it is in use: its number, and its key as far as it has grown.
 #[derive(Drop)]
 pub(crate) struct NextTree {
-    pub tree: u32,
-    pub key: GrowingKey,
+    pub(crate) tree: u32,
+    pub(crate) key: GrowingKey,
 }
 
 impl NextTree {

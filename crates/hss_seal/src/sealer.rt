@@ -76,7 +76,7 @@ impl HssSealer {
 
     /// The sealer of a replica whose trees grow from these seeds. Its top tree grows now. No leaf may have been used
     /// before.
-    pub fn from_seeds(
+    pub(crate) fn from_seeds(
         alloc: Global,
         seeds: HssSeeds,
         replica: u32,

@@ -48,7 +48,7 @@ impl HssSeeds {
     }
 
     /// Those that are drawn for a replica from one seed for all replicas.
-    pub fn draw(alloc: Global, seed: u64, replica: u32) -> Result<HssSeeds, NoMemory>
+    pub(crate) fn draw(alloc: Global, seed: u64, replica: u32) -> Result<HssSeeds, NoMemory>
         ensures { IfOk result (λ seeds. seeds ≡ drawn_seeds seed replica) }
     {
         let lower = joined(alloc, &seed.to_be_bytes(), &replica.to_be_bytes())?;

@@ -70,7 +70,7 @@ impl Named {
         Ok(())
     }
 
-    pub(crate) fn remove(&mut self, tx: &Tx) {
+    fn remove(&mut self, tx: &Tx) {
         self.txs.shift_remove(tx);
     }
 

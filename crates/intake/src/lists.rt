@@ -20,7 +20,7 @@ impl Desk {
     }
 
     /// The held transactions that arrived, in the order of receipt.
-    pub fn arrived_list(&self) -> Result<Vec<Tx>, NoMemory>
+    pub(crate) fn arrived_list(&self) -> Result<Vec<Tx>, NoMemory>
         ensures { IfOk result (λ txs. txs.items ≡ arrived_list self.now) }
     {
         let mut txs = Vec::new(self.alloc);

@@ -2,13 +2,13 @@
 use seq_base::Tx;
 
 /// The number of stamps of a slot: one for each replica of the largest setting.
-pub const STAMPS: usize = 16;
+const STAMPS: usize = 16;
 
 /// Stands where no stamp was heard.
-pub const UNKNOWN: u64 = u64::MAX;
+pub(crate) const UNKNOWN: u64 = u64::MAX;
 
 /// Every clock and stamp stays below it.
-pub const LIMIT: u64 = 1 << 63;
+pub(crate) const LIMIT: u64 = 1 << 63;
 
 /// A transaction that a replica received, with the stamp of its clock.
 #[derive(Clone, Copy, Debug, PartialEq, Eq)]

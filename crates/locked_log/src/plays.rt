@@ -6,12 +6,12 @@ use std::snapshot::Snapshot;
 
 /// The parts and the first value, which the rule is given once.
 #[derive(Drop)]
-pub struct Opening<L> {
-    pub parts: u32,
-    pub first: Snapshot<L>,
+pub(crate) struct Opening<L> {
+    pub(crate) parts: u32,
+    pub(crate) first: Snapshot<L>,
 }
 
-pub struct Turns;
+pub(crate) struct Turns;
 
 impl<L: Grows> TableRule<Option<L>, View<L::Entry>, Opening<L>> for Turns {
     ghost use Rattle.locked_log.specs.Turns.{Kept, opener};
@@ -21,7 +21,7 @@ impl<L: Grows> TableRule<Option<L>, View<L::Entry>, Opening<L>> for Turns {
     ghost first = { λ k. opener k.parts (L.list k.first.value) };
 }
 
-pub struct Takes;
+pub(crate) struct Takes;
 
 impl<L: Grows> Play<Option<L>, View<L::Entry>> for Takes {
     ghost use Rattle.locked_log.specs.Turns.{Taken};
@@ -29,7 +29,7 @@ impl<L: Grows> Play<Option<L>, View<L::Entry>> for Takes {
     ghost then = { Taken L.list };
 }
 
-pub struct Stores;
+pub(crate) struct Stores;
 
 impl<L: Grows> Play<Option<L>, View<L::Entry>> for Stores {
     ghost use Rattle.locked_log.specs.Turns.{Stored};
@@ -37,7 +37,7 @@ impl<L: Grows> Play<Option<L>, View<L::Entry>> for Stores {
     ghost then = { Stored L.list };
 }
 
-pub struct Releases;
+pub(crate) struct Releases;
 
 impl<L: Grows> Play<Option<L>, View<L::Entry>> for Releases {
     ghost use Rattle.locked_log.specs.Turns.{Released};
@@ -45,7 +45,7 @@ impl<L: Grows> Play<Option<L>, View<L::Entry>> for Releases {
     ghost then = { Released L.list };
 }
 
-pub struct Loads;
+pub(crate) struct Loads;
 
 impl<L: Grows> Play<Option<L>, View<L::Entry>> for Loads {
     ghost use Rattle.locked_log.specs.Turns.{Loaded};
@@ -53,7 +53,7 @@ impl<L: Grows> Play<Option<L>, View<L::Entry>> for Loads {
     ghost then = { Loaded L.list };
 }
 
-pub struct Compares;
+pub(crate) struct Compares;
 
 impl<L: Grows> Play<Option<L>, View<L::Entry>> for Compares {
     ghost use Rattle.locked_log.specs.Turns.{Compared};
@@ -61,7 +61,7 @@ impl<L: Grows> Play<Option<L>, View<L::Entry>> for Compares {
     ghost then = { Compared L.list };
 }
 
-pub struct Parts;
+pub(crate) struct Parts;
 
 impl<E> Split<View<E>> for Parts {
     ghost use Rattle.locked_log.specs.Turns.{kept_part, new_part};

@@ -12,17 +12,17 @@ pub struct News {
 
 /// What a pass knows: whether it sends, as which sender, and what it sent; whether it receives; how many senders were
 /// made; a prefix of what was received; and its notes of what senders sent. No value of this type exists at run time.
-pub struct Mail {
-    pub sends: bool,
-    pub takes: bool,
-    pub from: u32,
-    pub made: u32,
-    pub sent: LinkedList<Packet>,
-    pub got: LinkedList<Envelope>,
-    pub heard: LinkedList<News>,
+pub(crate) struct Mail {
+    pub(crate) sends: bool,
+    pub(crate) takes: bool,
+    pub(crate) from: u32,
+    pub(crate) made: u32,
+    pub(crate) sent: LinkedList<Packet>,
+    pub(crate) got: LinkedList<Envelope>,
+    pub(crate) heard: LinkedList<News>,
 }
 
-pub struct Post;
+pub(crate) struct Post;
 
 impl Protocol<Envelope, Mail> for Post {
     ghost use Rattle.std.specs.Prelude.{[]};
@@ -34,7 +34,7 @@ impl Protocol<Envelope, Mail> for Post {
 }
 
 /// An envelope is put into the mailbox.
-pub struct Puts;
+pub(crate) struct Puts;
 
 impl Outcome<Envelope, Mail> for Puts {
     ghost use Rattle.mailbox.specs.Mail.{Sent};
@@ -43,7 +43,7 @@ impl Outcome<Envelope, Mail> for Puts {
 }
 
 /// An envelope is taken, or the mailbox was empty.
-pub struct Gets;
+pub(crate) struct Gets;
 
 impl Outcome<Envelope, Mail> for Gets {
     ghost use Rattle.mailbox.specs.Mail.{Taken};
@@ -58,7 +58,7 @@ impl Lesson<Envelope, Mail> for Gets {
 }
 
 /// A sender compares its note of what was received with what it sent.
-pub struct Compares;
+pub(crate) struct Compares;
 
 impl Lesson<Envelope, Mail> for Compares {
     ghost use Rattle.mailbox.specs.Mail.{HasPrefix};
@@ -67,7 +67,7 @@ impl Lesson<Envelope, Mail> for Compares {
 }
 
 /// The receiver's pass makes the pass of one more sender.
-pub struct Deals;
+pub(crate) struct Deals;
 
 impl Split<Mail> for Deals {
     ghost use Rattle.std.specs.Prelude.{[]};
@@ -79,7 +79,7 @@ impl Split<Mail> for Deals {
 }
 
 /// A note of what was received goes from the receiver to a sender.
-pub struct Notes;
+pub(crate) struct Notes;
 
 impl Split<Mail> for Notes {
     ghost use Rattle.mailbox.specs.Mail.{note};
@@ -99,7 +99,7 @@ impl Join<Mail> for Notes {
 }
 
 /// A note of what a sender has sent goes to the receiver.
-pub struct Reports;
+pub(crate) struct Reports;
 
 impl Split<Mail> for Reports {
     ghost use Rattle.mailbox.specs.Mail.{tale};

@@ -12,7 +12,7 @@ use seq_base::NoMemory;
 use std::alloc::Global;
 
 /// For each of this many lists, the places of all transactions.
-pub fn columns_by_list(
+pub(crate) fn columns_by_list(
     alloc: Global,
     lists: usize,
     ranked: &[Ranked],
@@ -40,7 +40,7 @@ fn column_of(alloc: Global, list: usize, ranked: &[Ranked]) -> Result<Vec<u32>, 
 }
 
 /// Writes the edges of the vertex `from` to each vertex from it on. The weights are written over too.
-pub fn edges_from(
+pub(crate) fn edges_from(
     threshold: u32,
     columns: &[Vec<u32>],
     from: usize,

@@ -15,7 +15,7 @@ pub enum Edge {
 
 impl Edge {
     /// The same pair, seen from v.
-    pub fn opposite(self) -> Edge
+    pub(crate) fn opposite(self) -> Edge
         ensures { result ≡ opposite_of self }
     {
         match self {

@@ -9,14 +9,14 @@ use std::alloc::Global;
 
 /// A transaction of a list, and its place there.
 #[derive(Clone, Copy, PartialEq, Eq, PartialOrd, Ord)]
-pub struct Entry {
-    pub tx: Tx,
-    pub place: usize,
+pub(crate) struct Entry {
+    pub(crate) tx: Tx,
+    pub(crate) place: usize,
 }
 
 /// The place of each of the transactions in the list. Each search starts where the last one ended, so that ascending
 /// transactions take one pass through the entries.
-pub fn places_in(alloc: Global, txs: &[Tx], list: &[Tx]) -> Result<Vec<usize>, NoMemory>
+pub(crate) fn places_in(alloc: Global, txs: &[Tx], list: &[Tx]) -> Result<Vec<usize>, NoMemory>
     ensures { IfOk result (λ places. places.items ≡ map (λ t. place t list.now) txs.now) }
 {
     let entries = entries_of(alloc, list)?;

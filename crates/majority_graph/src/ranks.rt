@@ -7,9 +7,9 @@ use std::alloc::Global;
 
 /// A transaction with its place in each list. In a list that lacks it, its place is the list's length, after all
 /// others.
-pub struct Ranked {
-    pub tx: Tx,
-    pub places: Vec<u32>,
+pub(crate) struct Ranked {
+    pub(crate) tx: Tx,
+    pub(crate) places: Vec<u32>,
 }
 
 impl Drop for Ranked {
@@ -19,7 +19,7 @@ impl Drop for Ranked {
 }
 
 /// Looks up each transaction once in each list.
-pub fn rank_all(alloc: Global, txs: &[Tx], lists: &[TxList]) -> Result<Vec<Ranked>, NoMemory>
+pub(crate) fn rank_all(alloc: Global, txs: &[Tx], lists: &[TxList]) -> Result<Vec<Ranked>, NoMemory>
     ensures txs { IfOk result (λ ranked. map (λ r. r.tx) ranked.items ≡ txs.now) }
     ensures ranked { IfOk result (λ ranked. All (IsRanked lists.now) ranked.items) }
 {
@@ -58,7 +58,7 @@ fn places_at(alloc: Global, columns: &[Vec<usize>], at: usize) -> Result<Vec<u32
 }
 
 /// A number of 2^32 or more is treated as out of memory.
-pub fn narrowed(number: usize) -> Result<u32, NoMemory>
+pub(crate) fn narrowed(number: usize) -> Result<u32, NoMemory>
     ensures value { IfOk result (λ narrow. narrow ≡ number) }
     ensures fits { OnOk result (number < 2 ^ 32) }
 {
@@ -70,7 +70,7 @@ pub fn narrowed(number: usize) -> Result<u32, NoMemory>
 
 /// The weights of a pair. The first is the number of lists that hold the one before the other, or hold only the one.
 /// The second is the number for the other way round.
-pub fn weights(one: &Ranked, other: &Ranked) -> (usize, usize)
+pub(crate) fn weights(one: &Ranked, other: &Ranked) -> (usize, usize)
     ensures forward { result.0 ≡ ahead one.now.places.items other.now.places.items }
     ensures backward { result.1 ≡ ahead other.now.places.items one.now.places.items }
 {

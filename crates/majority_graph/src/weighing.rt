@@ -50,7 +50,7 @@ fn edges_of(
 }
 
 /// For each vertex, its edges by places in this many lists.
-pub fn rows_of(
+pub(crate) fn rows_of(
     alloc: Global,
     threshold: u32,
     lists: usize,
@@ -132,7 +132,7 @@ fn mirrored(alloc: Global, rows: &[Vec<Edge>], count: usize) -> Result<Vec<Edge>
     Ok(row)
 }
 
-pub fn edge_of(threshold: u32, from: &Ranked, to: &Ranked) -> Edge
+pub(crate) fn edge_of(threshold: u32, from: &Ranked, to: &Ranked) -> Edge
     ensures { result ≡ ranked_edge threshold from.now to.now }
 {
     let (forward, backward) = weights(from, to);

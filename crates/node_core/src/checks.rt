@@ -10,9 +10,9 @@ mod propose;
 mod shared;
 mod vote;
 
-pub use ask::ask_reason;
-pub use give::{give_reason, given_block_reason};
-pub use new_view::new_view_reason;
-pub use order::{order_reason, owned_order_reason};
-pub use propose::{propose_reason, proposed_block_reason};
-pub use vote::{owned_vote_reason, vote_reason};
+pub(crate) use ask::ask_reason;
+pub(crate) use give::{give_reason, given_block_reason};
+pub(crate) use new_view::new_view_reason;
+pub(crate) use order::{order_reason, owned_order_reason};
+pub(crate) use propose::{propose_reason, proposed_block_reason};
+pub(crate) use vote::{owned_vote_reason, vote_reason};

@@ -27,10 +27,10 @@ use seq_base::{
 use std::alloc::Global;
 use std::marker::Model;
 use votes::Ballot;
-pub use votes::Formed;
+pub(crate) use votes::Formed;
 
 /// All that a node knows, without its sealer.
-pub struct State {
+pub(crate) struct State {
     alloc: Global,
     /// The setting and the stored blocks.
     blocks: StoredBlocks,
@@ -111,7 +111,7 @@ impl Model for State {
 
 impl State {
     /// A state that knows only the first block.
-    pub fn new(alloc: Global, setting: Setting, views: u32, me: u32) -> State
+    pub(crate) fn new(alloc: Global, setting: Setting, views: u32, me: u32) -> State
         requires { (me < setting.n) × (5 * views < 2 ^ 32) }
         ensures { result ≡ fresh_known setting views me }
     {
@@ -134,13 +134,13 @@ impl State {
         }
     }
 
-    pub fn setting(&self) -> &Setting
+    pub(crate) fn setting(&self) -> &Setting
         ensures { result.now ≡ self.now.setting }
     {
         self.blocks.setting()
     }
 
-    pub fn me(&self) -> u32
+    pub(crate) fn me(&self) -> u32
         ensures value { result ≡ self.now.me }
         ensures replica { self.now.me < self.now.setting.n }
     {
@@ -148,7 +148,7 @@ impl State {
     }
 
     /// The number of replicas.
-    pub fn n(&self) -> u32
+    pub(crate) fn n(&self) -> u32
         ensures value { result ≡ self.now.setting.n }
         ensures few { result ≤ 16 }
         ensures replica { self.now.me < self.now.setting.n }
@@ -157,13 +157,13 @@ impl State {
     }
 
     /// The number of replicas in a quorum.
-    pub fn quorum(&self) -> u32
+    pub(crate) fn quorum(&self) -> u32
         ensures { result ≡ quorum_of self.now.setting }
     {
         self.blocks.setting().quorum()
     }
 
-    pub fn views(&self) -> u32
+    pub(crate) fn views(&self) -> u32
         ensures value { result ≡ self.now.views }
         ensures few { 5 * self.now.views < 2 ^ 32 }
     {
@@ -171,7 +171,7 @@ impl State {
     }
 
     /// The number of transactions that arrived, at most `u32::MAX`.
-    pub fn kept(&self) -> u32
+    pub(crate) fn kept(&self) -> u32
         ensures { result ≡ kept_of self.now }
     {
         match u32::try_from(self.prefix.len()) {
@@ -180,7 +180,7 @@ impl State {
         }
     }
 
-    pub fn view(&self) -> u32
+    pub(crate) fn view(&self) -> u32
         ensures value { result ≡ self.now.view }
         ensures within { self.now.view ≤ self.now.views }
         ensures few { 5 * self.now.views < 2 ^ 32 }
@@ -188,51 +188,51 @@ impl State {
         self.view
     }
 
-    pub fn ordered(&self) -> u32
+    pub(crate) fn ordered(&self) -> u32
         ensures { result ≡ self.now.ordered }
     {
         self.ordered
     }
 
-    pub fn asked(&self) -> u32
+    pub(crate) fn asked(&self) -> u32
         ensures { result ≡ self.now.asked }
     {
         self.asked
     }
 
-    pub fn proposed(&self) -> u32
+    pub(crate) fn proposed(&self) -> u32
         ensures { result ≡ self.now.proposed }
     {
         self.proposed
     }
 
-    pub fn high(&self) -> &Cert
+    pub(crate) fn high(&self) -> &Cert
         ensures { result.now ≡ self.now.high }
     {
         &self.high
     }
 
-    pub fn high_view(&self) -> u32
+    pub(crate) fn high_view(&self) -> u32
         ensures { result ≡ self.now.high.view }
     {
         self.high.view
     }
 
-    pub fn voted(&self) -> u32
+    pub(crate) fn voted(&self) -> u32
         ensures { result ≡ self.now.safety.voted }
     {
         self.safety.voted()
     }
 
     /// Whether the run has this view.
-    pub fn has_view(&self, view: u32) -> bool
+    pub(crate) fn has_view(&self, view: u32) -> bool
         ensures value { result ≡ has_view self.now view }
         ensures few { 5 * self.now.views < 2 ^ 32 }
     {
         0 < view && view <= self.views
     }
 
-    pub fn leader(&self, view: u32) -> u32
+    pub(crate) fn leader(&self, view: u32) -> u32
         ensures value { result ≡ leader_of self.now.setting view }
         ensures replica { result < self.now.setting.n }
     {
@@ -240,7 +240,7 @@ impl State {
     }
 
     /// The leader of the view after one of the run.
-    pub fn next_leader(&self, view: u32) -> u32
+    pub(crate) fn next_leader(&self, view: u32) -> u32
         requires { view ≤ self.now.views }
         ensures { result ≡ leader_of self.now.setting (view + 1) }
     {
@@ -248,41 +248,41 @@ impl State {
     }
 
     /// The view of a stored block.
-    pub fn view_of(&self, block: &Digest) -> Option<u32>
+    pub(crate) fn view_of(&self, block: &Digest) -> Option<u32>
         ensures { result ≡ view_of self.now.store block.now }
     {
         self.blocks.store().view_of(block)
     }
 
-    pub fn stores(&self, block: &Digest) -> bool
+    pub(crate) fn stores(&self, block: &Digest) -> bool
         ensures { result ≡ is_stored self.now.store block.now }
     {
         self.blocks.store().is_stored(block)
     }
 
     /// A stored block other than the first.
-    pub fn block(&self, block: &Digest) -> Option<&Block>
+    pub(crate) fn block(&self, block: &Digest) -> Option<&Block>
         ensures { shown result ≡ block_at self.now.store block.now }
     {
         self.blocks.store().get(block)
     }
 
     /// Whether a block other than this one has the digest.
-    pub fn clashes(&self, digest: &Digest, block: &Block) -> bool
+    pub(crate) fn clashes(&self, digest: &Digest, block: &Block) -> bool
         ensures { result ≡ clashes self.now.store digest.now block.now }
     {
         self.blocks.store().clashes(digest, block)
     }
 
     /// Whether the voting rule allows a vote for a block, regardless of earlier votes.
-    pub fn is_safe(&self, block: &Block) -> bool
+    pub(crate) fn is_safe(&self, block: &Block) -> bool
         ensures { result ≡ is_safe self.now.store self.now.safety block.now }
     {
         self.safety.is_safe(self.blocks.store(), block)
     }
 
     /// The view of the committed block.
-    pub fn commit_view(&self) -> u32
+    pub(crate) fn commit_view(&self) -> u32
         ensures { result ≡ view_at self.now.store self.now.safety.committed }
     {
         self.blocks
@@ -292,21 +292,25 @@ impl State {
     }
 
     /// Whether an order's lists fit the chain that ends in a stored block.
-    pub fn order_fits(&self, parent: &Digest, order: &LocalOrder) -> Result<bool, NoMemory>
+    pub(crate) fn order_fits(&self, parent: &Digest, order: &LocalOrder) -> Result<bool, NoMemory>
         ensures { IfOk result (λ fit. fit ≡ lists_fit self.now parent.now order.now) }
     {
         self.blocks.order_fits(parent, order)
     }
 
     /// Whether the lists of all orders fit the chain that ends in a stored block.
-    pub fn orders_fit(&self, parent: &Digest, orders: &[SealedOrder]) -> Result<bool, NoMemory>
+    pub(crate) fn orders_fit(
+        &self,
+        parent: &Digest,
+        orders: &[SealedOrder],
+    ) -> Result<bool, NoMemory>
         ensures { IfOk result (λ fit. fit ≡ list_all (λ sealed. lists_fit self.now parent.now sealed.order) orders.now) }
     {
         self.blocks.orders_fit(parent, orders)
     }
 
     /// The node's own order for a view, drawn from what it knows, over the chain that ends in a stored block.
-    pub fn draw(&self, view: u32, parent: &Digest) -> Result<LocalOrder, NoMemory>
+    pub(crate) fn draw(&self, view: u32, parent: &Digest) -> Result<LocalOrder, NoMemory>
         ensures { IfOk result (λ order. order ≡ order_of_view self.now view parent.now) }
     {
         self.blocks
@@ -314,35 +318,35 @@ impl State {
     }
 
     /// The final batches of the chain that ends in the committed block.
-    pub fn finals(&self) -> Result<BatchList, NoMemory>
+    pub(crate) fn finals(&self) -> Result<BatchList, NoMemory>
         ensures { IfOk result (λ batches. batches ≡ finals (chain_at self.now self.now.safety.committed)) }
     {
         self.blocks.finals(&self.safety.committed())
     }
 
     /// The number of final batches in the chain of the committed block, at most `usize::MAX`.
-    pub fn batch_count(&self) -> Result<usize, NoMemory>
+    pub(crate) fn batch_count(&self) -> Result<usize, NoMemory>
         ensures { IfOk result (λ count. count ≡ at_most_usize (length (finals (chain_at self.now self.now.safety.committed)))) }
     {
         self.blocks.batch_count(&self.safety.committed())
     }
 
     /// The final batch at a position in the chain of the committed block.
-    pub fn batch(&self, at: usize) -> Result<Option<TxList>, NoMemory>
+    pub(crate) fn batch(&self, at: usize) -> Result<Option<TxList>, NoMemory>
         ensures { IfOk result (λ batch. batch ≡ slice_get (finals (chain_at self.now self.now.safety.committed)) at) }
     {
         self.blocks.batch(&self.safety.committed(), at)
     }
 
     /// Whether a proposal in the chain of the highest certificate's block has this transaction.
-    pub fn is_proposed(&self, tx: &Tx) -> Result<bool, NoMemory>
+    pub(crate) fn is_proposed(&self, tx: &Tx) -> Result<bool, NoMemory>
         ensures { IfOk result (λ proposed. proposed ≡ is_used (chain_at self.now self.now.high.block) tx.now) }
     {
         self.blocks.is_used(&self.high.block, tx)
     }
 
     /// Stores a block whose parent is stored, and with which no other clashes.
-    pub fn store_block(&mut self, block: Block, digest: &Digest) -> Result<(), NoMemory>
+    pub(crate) fn store_block(&mut self, block: Block, digest: &Digest) -> Result<(), NoMemory>
         requires within { IsWithin block }
         requires own { digest.now ≡ block_digest block }
         requires parent { is_stored self.old.store block.cert.block ≡ true }
@@ -353,14 +357,14 @@ impl State {
     }
 
     /// Appends transactions to those that arrived.
-    pub fn arrive(&mut self, list: &[Tx]) -> Result<(), NoMemory>
+    pub(crate) fn arrive(&mut self, list: &[Tx]) -> Result<(), NoMemory>
         ensures { OnOk result (self.new ≡ record self.old { prefix = self.old.prefix ++ list.now }) }
     {
         self.prefix.extend_from_slice(list)?;
         Ok(())
     }
 
-    pub fn set_view(&mut self, view: u32)
+    pub(crate) fn set_view(&mut self, view: u32)
         requires { view ≤ self.old.views }
         ensures { self.new ≡ record self.old { view = view } }
     {
@@ -368,7 +372,7 @@ impl State {
     }
 
     /// Notes that the node draws its own order for a view.
-    pub fn start_order(&mut self, view: u32)
+    pub(crate) fn start_order(&mut self, view: u32)
         requires { view ≤ self.old.views }
         ensures { self.new ≡ ordering view self.old }
     {
@@ -377,7 +381,7 @@ impl State {
     }
 
     /// Notes that the node votes in a view.
-    pub fn vote(&mut self, view: u32)
+    pub(crate) fn vote(&mut self, view: u32)
         requires { self.old.safety.voted < view }
         ensures { self.new ≡ record self.old { safety = voted_in view self.old.safety } }
     {

@@ -8,7 +8,11 @@ use std::alloc::Global;
 
 /// The leader proposes a block.
 #[tactic(auto, unfolding(crate::specs::Order::proposal))]
-pub fn propose_statement(alloc: Global, replica: u32, block: &Block) -> Result<Bytes, NoMemory>
+pub(crate) fn propose_statement(
+    alloc: Global,
+    replica: u32,
+    block: &Block,
+) -> Result<Bytes, NoMemory>
     ensures { IfOk result (λ bytes. bytes ≡ proposal replica block.now) }
 {
     wire_write::propose_statement(alloc, replica, block)

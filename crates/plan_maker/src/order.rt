@@ -14,7 +14,12 @@ const CLIENTS: u32 = 4;
 
 /// The transactions in ascending order of their numbers, after one pass over the neighbouring pairs, which are
 /// swapped where a random word says so.
-pub fn order_of(alloc: Global, seed: u64, replica: u8, count: u32) -> Result<Vec<Tx>, NoMemory>
+pub(crate) fn order_of(
+    alloc: Global,
+    seed: u64,
+    replica: u8,
+    count: u32,
+) -> Result<Vec<Tx>, NoMemory>
     ensures { IfOk result (λ txs. txs.items ≡ made_order seed replica count) }
 {
     let mut txs = first_txs(alloc, count)?;

@@ -27,7 +27,7 @@ type Receipts = BTreeSet<(u32, Tx)>;
 
 /// Each transaction reaches a replica once, and none is a client's.
 #[tactic(auto, unfolding(crate::specs::Arrivals::arrivals_at))]
-pub fn read_arrivals(
+pub(crate) fn read_arrivals(
     alloc: Global,
     document: &Fields<'_>,
     setting: &Setting,
@@ -122,7 +122,7 @@ fn read_tx(
 }
 
 /// Refuses arrivals by which some replica would receive more than a log holds.
-pub fn check_received(
+pub(crate) fn check_received(
     alloc: Global,
     document: &Fields<'_>,
     setting: &Setting,

@@ -17,7 +17,7 @@ const MAX_COUNT: u32 = 65_536;
 
 /// Clients with distinct numbers. Their count is checked before any of them is read.
 #[tactic(auto, unfolding(crate::specs::Clients::clients_at))]
-pub fn read_clients(alloc: Global, document: &Fields<'_>) -> Result<Vec<Client>, PlanError>
+pub(crate) fn read_clients(alloc: Global, document: &Fields<'_>) -> Result<Vec<Client>, PlanError>
     ensures exact { ReadsAs (λ clients. clients.items) result (clients_at (section_of document.now)) }
     ensures few { IfOk result (λ clients. length clients.items ≤ 16) }
     ensures counts { IfOk result (λ clients. All (λ client. client.count ≤ 65536) clients.items) }
@@ -62,7 +62,7 @@ fn read_client(alloc: Global, value: &Value, earlier: &[Client]) -> Result<Clien
 }
 
 /// Whether a number is a client's.
-pub fn is_client(clients: &[Client], id: u32) -> bool
+pub(crate) fn is_client(clients: &[Client], id: u32) -> bool
     ensures { result ≡ is_client clients.now id }
 {
     clients.iter().any(|client| client.id == id)

@@ -19,7 +19,7 @@ type Occasions = BTreeSet<(u32, u32, u32)>;
 
 /// Each deed at most once for a replica and a view.
 #[tactic(auto, unfolding(crate::specs::Deeds::deeds_at), using(crate::proofs::Marked::once_none))]
-pub fn read_deeds(
+pub(crate) fn read_deeds(
     alloc: Global,
     document: &Fields<'_>,
     faulty: &ReplicaSet,

@@ -64,7 +64,7 @@ pub enum PlanError {
 }
 
 /// A fault of the whole text, which has no position.
-pub fn text_fault(alloc: Global, kind: FaultKind) -> PlanError
+pub(crate) fn text_fault(alloc: Global, kind: FaultKind) -> PlanError
     ensures { result ≡ Fault (record { kind = kind; key = [] }) }
 {
     PlanError::Fault(PlanFault {

@@ -16,7 +16,7 @@ use toml::Value;
 
 /// Distinct replicas, at most f.
 #[tactic(auto, unfolding(crate::specs::Faulty::faulty_at))]
-pub fn read_faulty(
+pub(crate) fn read_faulty(
     alloc: Global,
     document: &Fields<'_>,
     setting: &Setting,

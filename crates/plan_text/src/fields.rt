@@ -17,7 +17,7 @@ use toml::{Table, Value};
 /// A table: the document itself, or the table at an index of an array. A fault names a key of such a table as
 /// `client[0].id`.
 #[derive(Clone, Copy)]
-pub struct Fields<'a> {
+pub(crate) struct Fields<'a> {
     table: &'a Table,
     place: Option<(&'a str, usize)>,
 }
@@ -25,14 +25,14 @@ pub struct Fields<'a> {
 impl<'a> Fields<'a> {
     ghost use Rattle.plan_text.specs.Sections.{section_of};
 
-    pub fn of_document(table: &'a Table) -> Fields<'a>
+    pub(crate) fn of_document(table: &'a Table) -> Fields<'a>
         ensures { section_of result ≡ record { members = table_view table.now; prefix = [] } }
     {
         Fields { table, place: None }
     }
 
     /// The table at an index of an array.
-    pub fn of_element(
+    pub(crate) fn of_element(
         alloc: Global,
         value: &'a Value,
         list: &'a str,
@@ -50,7 +50,7 @@ impl<'a> Fields<'a> {
     }
 
     /// A fault of the value at a key.
-    pub fn fault(&self, alloc: Global, kind: FaultKind, key: &str) -> PlanError
+    pub(crate) fn fault(&self, alloc: Global, kind: FaultKind, key: &str) -> PlanError
         ensures { IsFaultOf result kind (key_in (section_of self.now) key.now) }
     {
         match self.name_of(alloc, key) {
@@ -63,7 +63,13 @@ impl<'a> Fields<'a> {
     }
 
     /// A fault of the element at an index of the array at a key.
-    pub fn element_fault(&self, alloc: Global, kind: FaultKind, key: &str, at: usize) -> PlanError
+    pub(crate) fn element_fault(
+        &self,
+        alloc: Global,
+        kind: FaultKind,
+        key: &str,
+        at: usize,
+    ) -> PlanError
         ensures { IsFaultOf result kind (place (key_in (section_of self.now) key.now) at) }
     {
         match format!(in alloc; "{key}[{at}]") {
@@ -83,7 +89,7 @@ impl<'a> Fields<'a> {
     }
 
     /// Refuses a key that is not among the names: the least by bytes, which is the first.
-    pub fn known(&self, alloc: Global, names: &[&str]) -> Result<(), PlanError>
+    pub(crate) fn known(&self, alloc: Global, names: &[&str]) -> Result<(), PlanError>
         ensures { ReadsTo result (known (map (λ name. name.now) names.now) (section_of self.now)) }
     {
         match first_unknown(self.table, names) {
@@ -92,14 +98,14 @@ impl<'a> Fields<'a> {
         }
     }
 
-    pub fn get(&self, key: &str) -> Option<&'a Value>
+    pub(crate) fn get(&self, key: &str) -> Option<&'a Value>
         ensures { option_map (λ value. view value.now) result ≡ get_member key.now (section_of self.now).members }
     {
         self.table.get(key)
     }
 
     /// What was read at a key, with a fault named by the key.
-    pub fn named<X: Drop>(
+    pub(crate) fn named<X: Drop>(
         &self,
         alloc: Global,
         key: &str,
@@ -115,7 +121,13 @@ impl<'a> Fields<'a> {
     }
 
     /// The number at a key, from `low` to `high`.
-    pub fn number(&self, alloc: Global, key: &str, low: u32, high: u32) -> Result<u32, PlanError>
+    pub(crate) fn number(
+        &self,
+        alloc: Global,
+        key: &str,
+        low: u32,
+        high: u32,
+    ) -> Result<u32, PlanError>
         ensures range { IfOk result (λ number. (low ≤ number) × (number ≤ high)) }
         ensures exact { ReadsTo result (number_at low high key.now (section_of self.now)) }
     {
@@ -126,7 +138,7 @@ impl<'a> Fields<'a> {
     }
 
     /// The word at a key.
-    pub fn word(&self, alloc: Global, key: &str) -> Result<&'a str, PlanError>
+    pub(crate) fn word(&self, alloc: Global, key: &str) -> Result<&'a str, PlanError>
         ensures { ReadsAs (λ word. word.now) result (word_at key.now (section_of self.now)) }
     {
         let Some(value) = self.get(key) else {
@@ -139,7 +151,7 @@ impl<'a> Fields<'a> {
     }
 
     /// The values of the array at a key.
-    pub fn array(&self, alloc: Global, key: &str) -> Result<&'a [Value], PlanError>
+    pub(crate) fn array(&self, alloc: Global, key: &str) -> Result<&'a [Value], PlanError>
         ensures { ReadsAs (λ values. map view values.now) result (at_key array_in key.now (section_of self.now)) }
     {
         let Some(value) = self.get(key) else {
@@ -152,7 +164,7 @@ impl<'a> Fields<'a> {
     }
 
     /// The values of the array at a key, and none where the key is absent.
-    pub fn array_if_any(&self, alloc: Global, key: &str) -> Result<&'a [Value], PlanError>
+    pub(crate) fn array_if_any(&self, alloc: Global, key: &str) -> Result<&'a [Value], PlanError>
         ensures { ReadsAs (λ values. map view values.now) result (at_key_or [] array_in key.now (section_of self.now)) }
     {
         let Some(value) = self.get(key) else {
@@ -166,7 +178,7 @@ impl<'a> Fields<'a> {
 }
 
 /// A fault of the element at an index of an array of the document.
-pub fn element_fault(alloc: Global, kind: FaultKind, key: &str, at: usize) -> PlanError
+pub(crate) fn element_fault(alloc: Global, kind: FaultKind, key: &str, at: usize) -> PlanError
     ensures { IsFaultOf result kind (place key.now at) }
 {
     match format!(in alloc; "{key}[{at}]") {

@@ -19,7 +19,7 @@ const MAX_VIEWS: u32 = 4_000;
 
 const MAX_TICKS: u32 = 1_000;
 
-pub const MAX_TURNS: u32 = 200_000;
+pub(crate) const MAX_TURNS: u32 = 200_000;
 
 const MAX_PAIRS: u32 = 65_536;
 
@@ -28,17 +28,17 @@ const SEALS_OF_A_VIEW: u32 = 5;
 
 /// The setting, the sealers and the bounds of a run.
 #[derive(Drop)]
-pub struct Head {
-    pub setting: Setting,
-    pub seed: u64,
-    pub height: Height,
-    pub views: u32,
-    pub ticks: u32,
-    pub turns: u32,
+pub(crate) struct Head {
+    pub(crate) setting: Setting,
+    pub(crate) seed: u64,
+    pub(crate) height: Height,
+    pub(crate) views: u32,
+    pub(crate) ticks: u32,
+    pub(crate) turns: u32,
 }
 
 #[tactic(auto, unfolding(crate::specs::Head::head_at))]
-pub fn read_head(alloc: Global, document: &Fields<'_>) -> Result<Head, PlanError>
+pub(crate) fn read_head(alloc: Global, document: &Fields<'_>) -> Result<Head, PlanError>
     ensures exact { ReadsTo result (head_at (section_of document.now)) }
     ensures small_seed { IfOk result (λ head. head.seed < 2 ^ 63) }
     ensures views { IfOk result (λ head. (1 ≤ head.views) × (head.views ≤ 4000)) }
@@ -156,7 +156,7 @@ fn read_turns(alloc: Global, document: &Fields<'_>) -> Result<u32, PlanError>
 
 /// Whether the batches are left out: they are printed where the key is absent.
 #[tactic(auto, unfolding(crate::specs::Head::summary_at))]
-pub fn read_summary(alloc: Global, document: &Fields<'_>) -> Result<bool, PlanError>
+pub(crate) fn read_summary(alloc: Global, document: &Fields<'_>) -> Result<bool, PlanError>
     ensures { ReadsTo result (summary_at (section_of document.now)) }
 {
     match document.get("print") {

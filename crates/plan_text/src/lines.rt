@@ -10,7 +10,7 @@ use seq_base::KeyText;
 use std::alloc::Global;
 
 /// A fault of the line of a number, counted from 1.
-pub fn line_fault(alloc: Global, kind: FaultKind, number: u32) -> PlanError
+pub(crate) fn line_fault(alloc: Global, kind: FaultKind, number: u32) -> PlanError
     ensures { IsFaultOf result kind (line_key number) }
 {
     match format!(in alloc; "line {number}") {
@@ -24,7 +24,11 @@ pub fn line_fault(alloc: Global, kind: FaultKind, number: u32) -> PlanError
 
 /// The first line of a text and the rest after it. The line is missing at the end of the text, and malformed where no
 /// line feed ends it.
-pub fn take_line(alloc: Global, text: &[u8], number: u32) -> Result<(&[u8], &[u8]), PlanError>
+pub(crate) fn take_line(
+    alloc: Global,
+    text: &[u8],
+    number: u32,
+) -> Result<(&[u8], &[u8]), PlanError>
     ensures { ReadsAs (λ found. (found.0.now, found.1.now)) result (line_at number text.now) }
 {
     if text.is_empty() {
@@ -37,7 +41,7 @@ pub fn take_line(alloc: Global, text: &[u8], number: u32) -> Result<(&[u8], &[u8
 }
 
 /// The first word of a line, and the rest after its space if there is one.
-pub fn first_word(line: &[u8]) -> (&[u8], Option<&[u8]>)
+pub(crate) fn first_word(line: &[u8]) -> (&[u8], Option<&[u8]>)
     ensures { words_in line.now ≡ result.0.now ∷ words_after result.1 }
 {
     match split_at_byte(line, b' ') {
@@ -47,7 +51,7 @@ pub fn first_word(line: &[u8]) -> (&[u8], Option<&[u8]>)
 }
 
 /// The bytes before the first occurrence of this byte, and those after it.
-pub fn split_at_byte(text: &[u8], byte: u8) -> Option<(&[u8], &[u8])>
+pub(crate) fn split_at_byte(text: &[u8], byte: u8) -> Option<(&[u8], &[u8])>
     ensures cut { option_map (λ found. (found.0.now, found.1.now)) result ≡ cut_at byte text.now }
 
     // A split of the text at each occurrence of the byte gives these parts.

@@ -23,7 +23,7 @@ type Sends = BTreeSet<(u32, u32, u32)>;
 
 /// At most one fault for each send.
 #[tactic(auto, unfolding(crate::specs::Links::links_at), using(crate::proofs::Marked::once_none))]
-pub fn read_links(
+pub(crate) fn read_links(
     alloc: Global,
     document: &Fields<'_>,
     setting: &Setting,

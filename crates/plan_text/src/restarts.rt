@@ -21,7 +21,7 @@ type Moments = BTreeSet<(u32, u32)>;
 
 /// Restarts of honest replicas, each once at a turn.
 #[tactic(auto, unfolding(crate::specs::Restarts::restarts_at), using(crate::proofs::Marked::once_none))]
-pub fn read_restarts(
+pub(crate) fn read_restarts(
     alloc: Global,
     document: &Fields<'_>,
     setting: &Setting,

@@ -8,7 +8,7 @@ use seq_base::Tx;
 use toml::Value;
 
 /// A number from `low` to `high`.
-pub fn number_of(value: &Value, low: u32, high: u32) -> Result<u32, FaultKind>
+pub(crate) fn number_of(value: &Value, low: u32, high: u32) -> Result<u32, FaultKind>
     ensures value { result ≡ number_in low high (view value.now) }
     ensures range { IfOk result (λ number. (low ≤ number) × (number ≤ high)) }
 {
@@ -22,7 +22,7 @@ pub fn number_of(value: &Value, low: u32, high: u32) -> Result<u32, FaultKind>
 }
 
 /// A number from 0 to 2^63-1, the greatest that a document can hold.
-pub fn seed_of(value: &Value) -> Result<u64, FaultKind>
+pub(crate) fn seed_of(value: &Value) -> Result<u64, FaultKind>
     ensures value { result ≡ seed_in (view value.now) }
     ensures small { IfOk result (λ seed. seed < 2 ^ 63) }
 {
@@ -35,7 +35,7 @@ pub fn seed_of(value: &Value) -> Result<u64, FaultKind>
     }
 }
 
-pub fn word_of(value: &Value) -> Result<&str, FaultKind>
+pub(crate) fn word_of(value: &Value) -> Result<&str, FaultKind>
     ensures { Gives (λ word. word.now) result (word_in (view value.now)) }
 {
     match value.as_str() {
@@ -44,7 +44,7 @@ pub fn word_of(value: &Value) -> Result<&str, FaultKind>
     }
 }
 
-pub fn array_of(value: &Value) -> Result<&[Value], FaultKind>
+pub(crate) fn array_of(value: &Value) -> Result<&[Value], FaultKind>
     ensures { Gives (λ values. map view values.now) result (array_in (view value.now)) }
 {
     match value.as_array() {
@@ -53,7 +53,7 @@ pub fn array_of(value: &Value) -> Result<&[Value], FaultKind>
     }
 }
 
-pub fn tx_of(value: &Value) -> Result<Tx, FaultKind>
+pub(crate) fn tx_of(value: &Value) -> Result<Tx, FaultKind>
     ensures { result ≡ tx_in (view value.now) }
 {
     match Tx::parse(word_of(value)?.as_bytes()) {

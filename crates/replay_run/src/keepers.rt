@@ -79,7 +79,7 @@ impl<K: Keeper> Model for Keepers<K> {
 
 impl<K: Keeper> Keepers<K> {
     /// Keepers that log no replica.
-    pub fn none(alloc: Global) -> Keepers<K>
+    pub(crate) fn none(alloc: Global) -> Keepers<K>
         ensures { result ≡ [] }
     {
         Keepers {
@@ -89,7 +89,7 @@ impl<K: Keeper> Keepers<K> {
     }
 
     /// Logs the event of the replica at a place, if that replica is logged.
-    pub fn keep(&mut self, at: u32, event: &Event) -> Result<(), StepFault>
+    pub(crate) fn keep(&mut self, at: u32, event: &Event) -> Result<(), StepFault>
         ensures kept { OnOk result (HasKept (meant K.Keeper) event.now at self.old self.new) }
         ensures fault { IfErr result (IsKeepFault (meant K.Keeper) at self.old self.new) }
     {

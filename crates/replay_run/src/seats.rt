@@ -16,7 +16,7 @@ use std::alloc::Global;
 use std::collections::VecDeque;
 
 /// One event of the seat at a place. If there is no seat, nothing happens.
-pub fn process_at<S: Sealer, C: Checker>(
+pub(crate) fn process_at<S: Sealer, C: Checker>(
     alloc: Global,
     seats: &mut [Seat<S>],
     plan: &Plan,
@@ -40,7 +40,7 @@ pub fn process_at<S: Sealer, C: Checker>(
 }
 
 /// Takes what arrived by a count of turns at the seat at a place. If there is no seat, there are no arrivals.
-pub fn take_at<S: Sealer>(
+pub(crate) fn take_at<S: Sealer>(
     alloc: Global,
     seats: &mut [Seat<S>],
     at: u32,
@@ -61,7 +61,7 @@ pub fn take_at<S: Sealer>(
 }
 
 /// Gives this node to the seat at a place. If there is no seat, the node is dropped.
-pub fn seat_at<S: Sealer>(seats: &mut [Seat<S>], at: u32, node: Node<S>)
+pub(crate) fn seat_at<S: Sealer>(seats: &mut [Seat<S>], at: u32, node: Node<S>)
     ensures { seats.new ≡ reseated seats.old at node }
 {
     let place = at as usize;

@@ -50,7 +50,7 @@ impl Pool {
     }
 
     /// The output of a turn, with pooled sends.
-    pub fn pooled_turn(&mut self, mut turned: Turned) -> Result<Turned, NoMemory>
+    pub(crate) fn pooled_turn(&mut self, mut turned: Turned) -> Result<Turned, NoMemory>
         ensures { IfOk result (λ pooled. pooled ≡ turned) }
     {
         let sends = turned.take_sends(self.alloc);

@@ -8,7 +8,7 @@ use std::alloc::AllocError;
 use std::fmt::Write;
 
 /// How many lists decide a pair, make a transaction solid, and make a proposal.
-pub fn write_counts(text: &mut String, setting: &Setting) -> Result<(), AllocError>
+pub(crate) fn write_counts(text: &mut String, setting: &Setting) -> Result<(), AllocError>
     ensures { OnOk result (string_bytes text.new ≡ string_bytes text.old ++ counts_line setting.now) }
 {
     let threshold = setting.threshold();
@@ -18,7 +18,7 @@ pub fn write_counts(text: &mut String, setting: &Setting) -> Result<(), AllocErr
 }
 
 /// A line for each batch, numbered from 1.
-pub fn write_batches(text: &mut String, batches: &BatchList) -> Result<(), AllocError>
+pub(crate) fn write_batches(text: &mut String, batches: &BatchList) -> Result<(), AllocError>
     ensures { OnOk result (string_bytes text.new ≡ string_bytes text.old ++ batch_lines 1 batches.now) }
 {
     let batches = batches.as_slice();
@@ -28,7 +28,7 @@ pub fn write_batches(text: &mut String, batches: &BatchList) -> Result<(), Alloc
     Ok(())
 }
 
-pub fn write_batch(text: &mut String, number: usize, batch: &[Tx]) -> Result<(), AllocError>
+pub(crate) fn write_batch(text: &mut String, number: usize, batch: &[Tx]) -> Result<(), AllocError>
     ensures { OnOk result (string_bytes text.new ≡ string_bytes text.old ++ batch_line number batch.now) }
 {
     write!(text, "batch {number}")?;
@@ -37,7 +37,7 @@ pub fn write_batch(text: &mut String, number: usize, batch: &[Tx]) -> Result<(),
 }
 
 /// Transactions on a line, each after one space.
-pub fn write_after_spaces(text: &mut String, txs: &[Tx]) -> Result<(), AllocError>
+pub(crate) fn write_after_spaces(text: &mut String, txs: &[Tx]) -> Result<(), AllocError>
     ensures { OnOk result (string_bytes text.new ≡ string_bytes text.old ++ after_spaces txs.now) }
 {
     for tx in txs {

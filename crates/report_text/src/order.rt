@@ -38,7 +38,11 @@ pub fn order_text(
 }
 
 /// A line for each listed transaction. `kept` is in ascending order.
-pub fn write_classes(text: &mut String, classes: &Classes, kept: &[Tx]) -> Result<(), AllocError>
+pub(crate) fn write_classes(
+    text: &mut String,
+    classes: &Classes,
+    kept: &[Tx],
+) -> Result<(), AllocError>
     requires { IsStrictlySortedBy tx_cmp kept.now }
     ensures { OnOk result (string_bytes text.new ≡ string_bytes text.old
         ++ flat_map (λ t. class_line (class_in classes.now t) (holds t kept.now) t (count_in classes.now t)) classes.now.txs) }
@@ -98,7 +102,7 @@ fn write_end(
     }
 }
 
-pub fn write_open(text: &mut String, u: &Tx, v: &Tx) -> Result<(), AllocError>
+pub(crate) fn write_open(text: &mut String, u: &Tx, v: &Tx) -> Result<(), AllocError>
     ensures { OnOk result (string_bytes text.new ≡ string_bytes text.old ++ open_line u.now v.now) }
 {
     writeln!(text, "open {u} {v}")

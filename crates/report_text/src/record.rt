@@ -28,7 +28,7 @@ pub fn record_text(
     Ok(Bytes::of(text.into_bytes()))
 }
 
-pub fn write_setting(text: &mut String, setting: &Setting) -> Result<(), AllocError>
+pub(crate) fn write_setting(text: &mut String, setting: &Setting) -> Result<(), AllocError>
     ensures { OnOk result (string_bytes text.new ≡ string_bytes text.old ++ setting_line setting.now) }
 {
     write_parameters(text, setting)?;
@@ -64,7 +64,7 @@ fn write_replicas(text: &mut String, run: &RunRecord, summary: bool) -> Result<(
 }
 
 /// Whether the text reports a replica: the faulty ones are left out.
-pub fn is_reported(run: &RunRecord, replica: u32) -> bool
+pub(crate) fn is_reported(run: &RunRecord, replica: u32) -> bool
     ensures { result ≡ not (is_among run.now.faulty replica) }
 {
     !run.faulty.has(replica)
@@ -102,7 +102,7 @@ fn write_standing(
     write_shown(text, batches, summary)
 }
 
-pub fn write_amounts(text: &mut String, batches: &BatchList) -> Result<(), AllocError>
+pub(crate) fn write_amounts(text: &mut String, batches: &BatchList) -> Result<(), AllocError>
     ensures { OnOk result (string_bytes text.new ≡ string_bytes text.old ++ amounts_text batches.now) }
 {
     write_batch_count(text, batches.as_slice().len() as u64)?;
@@ -169,7 +169,7 @@ fn write_end(text: &mut String, verdict: &Verdict) -> Result<(), AllocError>
 
 /// Where a forged seal was found.
 #[tactic(auto, unfolding(crate::specs::Lines::forged_words))]
-pub fn write_forged(text: &mut String, at: &ForgedAt) -> Result<(), AllocError>
+pub(crate) fn write_forged(text: &mut String, at: &ForgedAt) -> Result<(), AllocError>
     ensures { OnOk result (string_bytes text.new ≡ string_bytes text.old ++ forged_words at.now) }
 {
     let receiver = at.receiver;
@@ -184,7 +184,7 @@ pub fn write_forged(text: &mut String, at: &ForgedAt) -> Result<(), AllocError>
 
 /// The places of the two blocks. If the first block's digest is the cause, the place of one.
 #[tactic(auto, unfolding(crate::specs::Lines::collided_words))]
-pub fn write_collided(text: &mut String, at: &CollidedAt) -> Result<(), AllocError>
+pub(crate) fn write_collided(text: &mut String, at: &CollidedAt) -> Result<(), AllocError>
     ensures { OnOk result (string_bytes text.new ≡ string_bytes text.old ++ collided_words at.now) }
 {
     text.push_str("collided first=")?;

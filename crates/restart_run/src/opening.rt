@@ -17,7 +17,7 @@ use std::alloc::Global;
 
 /// The keeper of a replica at the start of a run. The keeper of an honest replica is opened, with the replica's header.
 /// A faulty replica logs nothing, because its deeds use its sealer.
-pub fn begun_keeper<K: Keeper>(
+pub(crate) fn begun_keeper<K: Keeper>(
     alloc: Global,
     plan: &Plan,
     replica: u32,
@@ -75,7 +75,7 @@ fn begun_log<K: Keeper>(
 
 /// Stops the replica and reopens it. Its node has the state that the log of its keeper leads to, which is the state
 /// that the replica had. The sealer is a new one, and gives the seals that the replica gave.
-pub fn reopened<S: Sealer, C: Checker, K: Keeper>(
+pub(crate) fn reopened<S: Sealer, C: Checker, K: Keeper>(
     alloc: Global,
     plan: &Plan,
     sealer: S,

@@ -19,7 +19,7 @@ use seal_kit::{Checker, SealGrower, Sealer};
 use std::alloc::Global;
 
 /// Makes each restart of the plan whose turn is at least `from`, and is reached.
-pub fn restart_due<M: SealGrower, C: Checker, K: Keeper>(
+pub(crate) fn restart_due<M: SealGrower, C: Checker, K: Keeper>(
     alloc: Global,
     network: &mut Network<M::S>,
     keepers: &mut Keepers<K>,

@@ -8,7 +8,7 @@ use node_core::{Entry, Event};
 use wire_view::{BlockView, MessageView, read};
 
 /// The message that an entry delivered. None if it delivered nothing that reads as one.
-pub fn delivered(entry: &Entry) -> Option<MessageView<'_>>
+pub(crate) fn delivered(entry: &Entry) -> Option<MessageView<'_>>
     ensures value { result ≡ delivered entry.now }
     ensures writable { IfSome result (λ message. IsWritable (message_of message)) }
 {
@@ -20,7 +20,7 @@ pub fn delivered(entry: &Entry) -> Option<MessageView<'_>>
 }
 
 /// The block that an entry delivered in a Propose or a Give.
-pub fn delivered_block(entry: &Entry) -> Option<BlockView<'_>>
+pub(crate) fn delivered_block(entry: &Entry) -> Option<BlockView<'_>>
     ensures value { result ≡ delivered_block entry.now }
     ensures writable { IfSome result (λ block. IsWritableBlock block) }
 {

@@ -37,7 +37,7 @@ pub fn first_forged<C: Checker>(run: &RunRecord, checker: &C) -> Option<ForgedAt
 }
 
 /// The number of an entry. A journal is far shorter than the greatest number.
-pub fn number_of(entry: usize) -> u32
+pub(crate) fn number_of(entry: usize) -> u32
     ensures { result ≡ counted entry }
 {
     u32::try_from(entry).unwrap_or(u32::MAX)

@@ -2,10 +2,10 @@ use std::marker::Model;
 
 /// A seal, and the replica and the statement that it is for.
 #[derive(Drop)]
-pub struct Part<'a> {
-    pub signer: u32,
-    pub statement: &'a [u8],
-    pub seal: &'a [u8],
+pub(crate) struct Part<'a> {
+    pub(crate) signer: u32,
+    pub(crate) statement: &'a [u8],
+    pub(crate) seal: &'a [u8],
 }
 
 impl<'a> Model for Part<'a> {

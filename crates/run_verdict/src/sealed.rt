@@ -10,19 +10,19 @@ const MAX_SIGNERS: usize = 16;
 /// Where the last search in the journal of each signer ended. A statement is mostly delivered soon after it was sealed,
 /// and so is the next one of the same signer, so a search begins there. The answer does not depend on where it begins.
 #[derive(Drop)]
-pub struct Bookmarks {
+pub(crate) struct Bookmarks {
     places: [usize; MAX_SIGNERS],
 }
 
 impl Bookmarks {
-    pub fn start() -> Bookmarks {
+    pub(crate) fn start() -> Bookmarks {
         Bookmarks {
             places: [0; MAX_SIGNERS],
         }
     }
 
     /// Whether any entry of the signer's journal sealed the statement.
-    pub fn was_sealed(&mut self, journals: &[Journal], signer: u32, statement: &[u8]) -> bool
+    pub(crate) fn was_sealed(&mut self, journals: &[Journal], signer: u32, statement: &[u8]) -> bool
         ensures { result ≡ was_sealed journals.now signer statement.now }
     {
         let Some(journal) = journals.get(signer as usize) else {

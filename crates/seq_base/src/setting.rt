@@ -5,10 +5,10 @@ use std::fmt;
 use std::marker::Model;
 
 /// The maximum number of replicas in a setting.
-pub const MAX_REPLICAS: u32 = 16;
+const MAX_REPLICAS: u32 = 16;
 
 /// The maximum denominator of the fairness parameter.
-pub const MAX_DENOMINATOR: u32 = 1000;
+const MAX_DENOMINATOR: u32 = 1000;
 
 /// The first part of a setting that is refused.
 #[derive(Clone, Copy, Debug, PartialEq, Eq)]

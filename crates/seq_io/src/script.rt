@@ -3,7 +3,7 @@ ghost use Rattle.std.specs.Prelude.{◌≡◌, ◌≤◌, ◌↔◌, IsTrue};
 use std::marker::Model;
 
 /// Which calls of a source or a sink in memory fail, and how many calls and faults there were.
-pub struct Calls {
+pub(crate) struct Calls {
     failing: Vec<u64>,
     calls: u64,
     faults: u64,
@@ -30,7 +30,7 @@ impl Model for Calls {
 impl Calls {
     ghost use Rattle.seq_io.specs.Memory.{Script, FailsNext, after_call, after_fault};
 
-    pub fn new(failing: Vec<u64>) -> Calls
+    pub(crate) fn new(failing: Vec<u64>) -> Calls
         ensures { result ≡ record { failing = failing.items; calls = 0; faults = 0 } }
     {
         Calls {
@@ -41,19 +41,19 @@ impl Calls {
     }
 
     /// Whether the next call fails.
-    pub fn fails_next(&self) -> bool
+    pub(crate) fn fails_next(&self) -> bool
         ensures { IsTrue result ↔ FailsNext self.now }
     {
         self.failing.contains(&self.calls.saturating_add(1))
     }
 
-    pub fn succeed(&mut self)
+    pub(crate) fn succeed(&mut self)
         ensures { self.new ≡ after_call self.old }
     {
         self.calls = self.calls.saturating_add(1);
     }
 
-    pub fn fail(&mut self)
+    pub(crate) fn fail(&mut self)
         ensures counts { self.new ≡ after_fault self.old }
         ensures later { self.old.faults ≤ self.new.faults }
     {

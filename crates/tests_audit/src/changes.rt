@@ -12,13 +12,17 @@ use trace_form::{Keys, TraceFault, read_trace, write_trace};
 
 /// An unchanged trace, and the checker of its seals.
 #[derive(Drop)]
-pub struct Good<C> {
-    pub bytes: Bytes,
+pub(crate) struct Good<C> {
+    pub(crate) bytes: Bytes,
     checker: C,
 }
 
 /// The trace of a plan's run.
-pub fn played<M: SealMaker>(alloc: Global, maker: &M, plan: &str) -> Result<Good<M::C>, Fail> {
+pub(crate) fn played<M: SealMaker>(
+    alloc: Global,
+    maker: &M,
+    plan: &str,
+) -> Result<Good<M::C>, Fail> {
     let plan = read_plan(alloc, plan.as_bytes())?;
     let Kit { sealers, checker } = maker.make(plan.seed, plan.height, plan.setting.n())?;
     let run = play(alloc, &plan, sealers, &checker)?;
@@ -142,7 +146,7 @@ fn write_mismatches<C: Checker>(
 }
 
 /// The digest of the trace of a plan's run, followed by the cases with another answer than expected.
-pub fn digest_and_mismatches<M: SealMaker>(
+pub(crate) fn digest_and_mismatches<M: SealMaker>(
     alloc: Global,
     maker: &M,
     plan: &str,

@@ -12,7 +12,7 @@ const FIELDS: [usize; 65] = [
     220, 224, 228,
 ];
 
-pub fn fault_of(alloc: Global, bytes: &[u8]) -> Option<TraceFault> {
+pub(crate) fn fault_of(alloc: Global, bytes: &[u8]) -> Option<TraceFault> {
     read_trace(alloc, bytes).err()
 }
 
@@ -23,7 +23,7 @@ fn field_start(fields: &[usize], size: usize) -> u64 {
 }
 
 /// The first size below `sizes` at which a truncation is reported at another place than its field.
-pub fn first_wrong_truncation(
+pub(crate) fn first_wrong_truncation(
     alloc: Global,
     bytes: &[u8],
     fields: &[usize],
@@ -84,7 +84,7 @@ fn change_of(case: &str) -> Option<(usize, u8, u64)> {
     Some((place, byte, at))
 }
 
-pub fn set(bytes: &mut [u8], place: usize, byte: u8) -> Result<(), Fail> {
+pub(crate) fn set(bytes: &mut [u8], place: usize, byte: u8) -> Result<(), Fail> {
     match bytes.get_mut(place) {
         Some(at) => {
             *at = byte;
@@ -113,7 +113,11 @@ fn is_reported(alloc: Global, good: &[u8], case: &str) -> Result<bool, Fail> {
 
 /// The first case with another answer than expected. A case is a place of the valid trace, the byte to put there, the
 /// expected place of the fault, and the reason.
-pub fn first_mismatch<'a>(alloc: Global, good: &[u8], cases: &'a str) -> Result<&'a str, Fail> {
+pub(crate) fn first_mismatch<'a>(
+    alloc: Global,
+    good: &[u8],
+    cases: &'a str,
+) -> Result<&'a str, Fail> {
     for case in cases.lines() {
         if !is_reported(alloc, good, case)? {
             return Ok(case);

@@ -54,14 +54,14 @@ const OF_ONE: &str =
     2a02050000000002f50458bc66d8c85a70d28d8131582784b23f87093783402ba2bf87d0e577bf6b0000000000000001\
     00000000020000000000000000";
 
-pub fn by_hand(alloc: Global) -> Result<Vec<u8>, FromHexError> {
+pub(crate) fn by_hand(alloc: Global) -> Result<Vec<u8>, FromHexError> {
     hex::decode(alloc, BY_HAND)
 }
 
-pub fn by_hand_keyed(alloc: Global) -> Result<Vec<u8>, FromHexError> {
+pub(crate) fn by_hand_keyed(alloc: Global) -> Result<Vec<u8>, FromHexError> {
     hex::decode(alloc, BY_HAND_KEYED)
 }
 
-pub fn of_one(alloc: Global) -> Result<Vec<u8>, FromHexError> {
+pub(crate) fn of_one(alloc: Global) -> Result<Vec<u8>, FromHexError> {
     hex::decode(alloc, OF_ONE)
 }

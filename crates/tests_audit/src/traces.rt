@@ -46,7 +46,7 @@ fn has_three(journals: &[Journal]) -> bool {
     }
 }
 
-pub fn is_written_back(alloc: Global, trace: &Trace, bytes: &[u8]) -> Result<bool, Fail> {
+pub(crate) fn is_written_back(alloc: Global, trace: &Trace, bytes: &[u8]) -> Result<bool, Fail> {
     let written = write_trace(alloc, &trace.run, &trace.keys, trace.height, trace.views)?;
     Ok(written.as_slice() == bytes)
 }

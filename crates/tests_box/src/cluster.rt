@@ -10,15 +10,15 @@ use std::test::Fail;
 
 /// A message that is sent and not delivered yet.
 #[derive(Drop)]
-pub struct Message {
-    pub from: u32,
-    pub to: u32,
-    pub bytes: Packet,
+pub(crate) struct Message {
+    pub(crate) from: u32,
+    pub(crate) to: u32,
+    pub(crate) bytes: Packet,
 }
 
 impl Message {
     /// The event of its delivery.
-    pub fn event(&self) -> Result<Event, NoMemory> {
+    pub(crate) fn event(&self) -> Result<Event, NoMemory> {
         Ok(Event::Deliver {
             from: self.from,
             bytes: self.bytes.share()?,
@@ -27,18 +27,18 @@ impl Message {
 }
 
 #[derive(Drop)]
-pub struct Cluster {
-    pub replicas: Vec<Replica>,
+pub(crate) struct Cluster {
+    pub(crate) replicas: Vec<Replica>,
     /// The log of replica 0, without its header.
-    pub log: Vec<u8>,
+    pub(crate) log: Vec<u8>,
     /// Messages that are not delivered yet, in the order of sending.
-    pub queue: VecDeque<Message>,
+    pub(crate) queue: VecDeque<Message>,
     /// Messages that were held back.
-    pub held: Vec<Message>,
+    pub(crate) held: Vec<Message>,
 }
 
 /// Five new replicas.
-pub fn new_cluster(alloc: Global) -> Result<Cluster, Fail> {
+pub(crate) fn new_cluster(alloc: Global) -> Result<Cluster, Fail> {
     let keys = publics(alloc, Height::H5H5)?;
     let mut replicas = Vec::new(alloc);
     for me in 0..5u8 {
@@ -86,7 +86,7 @@ fn turn(
 
 impl Cluster {
     /// The turn of a replica on an event.
-    pub fn turn(&mut self, to: u32, event: Event) -> Result<(), Fail> {
+    pub(crate) fn turn(&mut self, to: u32, event: Event) -> Result<(), Fail> {
         match self.replicas.get_mut(to as usize) {
             Some(replica) => turn(replica, &mut self.log, &mut self.queue, to, event),
             None => Ok(()),
@@ -94,7 +94,7 @@ impl Cluster {
     }
 
     /// A tick of each replica.
-    pub fn tick(&mut self, floor: u32) -> Result<(), Fail> {
+    pub(crate) fn tick(&mut self, floor: u32) -> Result<(), Fail> {
         for me in 0..5 {
             self.turn(me, Event::Tick { floor })?;
         }
@@ -102,7 +102,7 @@ impl Cluster {
     }
 
     /// Delivers all messages in the order of sending, except those to one replica, which it holds back.
-    pub fn deliver_all(&mut self, held: u32) -> Result<(), Fail> {
+    pub(crate) fn deliver_all(&mut self, held: u32) -> Result<(), Fail> {
         for _ in 0..1000 {
             let Some(message) = self.queue.pop_front() else {
                 return Ok(());

@@ -8,18 +8,18 @@ use std::test::Fail;
 
 /// The first record of replica 0, of a tick with the floor 0: the length of its body, the checksum of the length, the body and
 /// its checksum. The checksums were computed with Python's `hashlib`.
-pub const TICK: [u8; 25] = [
+pub(crate) const TICK: [u8; 25] = [
     0, 0, 0, 5, 61, 47, 172, 64, 178, 43, 31, 244, 3, 0, 0, 0, 0, 18, 37, 53, 208, 124, 21, 48, 16,
 ];
 
 /// The public key of a replica, with keys of a height. Its secret has its number in each byte.
-pub fn public_of(alloc: Global, height: Height, me: u8) -> Result<[u8; 60], Fail> {
+pub(crate) fn public_of(alloc: Global, height: Height, me: u8) -> Result<[u8; 60], Fail> {
     let sealer = AnySealer::from_bytes(alloc, &[me; 16], &[me; 32], height, u32::from(me))?;
     Ok(sealer.public())
 }
 
 /// The public keys of all replicas.
-pub fn publics(alloc: Global, height: Height) -> Result<Vec<[u8; 60]>, Fail> {
+pub(crate) fn publics(alloc: Global, height: Height) -> Result<Vec<[u8; 60]>, Fail> {
     let mut keys = Vec::new(alloc);
     for me in 0..5u8 {
         keys.push(public_of(alloc, height, me)?)?;
@@ -29,7 +29,7 @@ pub fn publics(alloc: Global, height: Height) -> Result<Vec<[u8; 60]>, Fail> {
 
 /// Replica `me`, with the secret of replica `secret`, opened over a log, and how many bytes of the log it uses. Keys have
 /// one tree.
-pub fn opened(
+pub(crate) fn opened(
     alloc: Global,
     me: u8,
     secret: u8,
@@ -40,7 +40,7 @@ pub fn opened(
 }
 
 /// The same with keys of a height, and these public keys.
-pub fn opened_with(
+pub(crate) fn opened_with(
     alloc: Global,
     height: Height,
     publics: &[[u8; 60]],
@@ -52,7 +52,7 @@ pub fn opened_with(
 }
 
 /// The same in a run with this last view.
-pub fn opened_until(
+pub(crate) fn opened_until(
     alloc: Global,
     views: u32,
     height: Height,
@@ -71,12 +71,12 @@ pub fn opened_until(
 }
 
 /// Replica 0, opened over a log, and how many bytes of the log it uses.
-pub fn first(alloc: Global, log: &[u8]) -> Result<(Replica, usize), Fail> {
+pub(crate) fn first(alloc: Global, log: &[u8]) -> Result<(Replica, usize), Fail> {
     Ok(opened(alloc, 0, 0, log)??)
 }
 
 /// The log of replica 0 after a tick, as the host writes it: the header, and the record.
-pub fn log_after_a_tick(alloc: Global) -> Result<Vec<u8>, Fail> {
+pub(crate) fn log_after_a_tick(alloc: Global) -> Result<Vec<u8>, Fail> {
     let (replica, _) = first(alloc, &[])?;
     let mut log = Vec::from_slice(alloc, replica.header())?;
     log.extend_from_slice(&TICK)?;

@@ -9,7 +9,7 @@ use std::alloc::Global;
 use std::test::Fail;
 
 /// A message by its place, a byte of it, and what this byte is XORed with.
-pub type Case = (usize, usize, u8);
+pub(crate) type Case = (usize, usize, u8);
 
 /// Messages of replica 0: a seal that does not fit, twice, ten that fit, the last and the first of them again, and the last
 /// one changed. Byte 6 is the view, 46, which becomes 51. Byte 100 is in the signature of the seal's top tree, and byte
@@ -37,7 +37,7 @@ const CALLS: [Case; 18] = [
 
 /// A block whose seals are known. Byte 4000 is in the seal of its certificate's first vote, byte 38000 in that of its last
 /// order.
-pub const BLOCKS: [Case; 4] = [(0, 0, 0), (0, 4000, 1), (0, 38000, 1), (0, 0, 0)];
+pub(crate) const BLOCKS: [Case; 4] = [(0, 0, 0), (0, 4000, 1), (0, 38000, 1), (0, 0, 0)];
 
 /// Replica `me` of a run with 60 views.
 fn replica(alloc: Global, me: u8) -> Result<Replica, Fail> {
@@ -61,7 +61,7 @@ fn calls(alloc: Global) -> Result<Vec<Packet>, Fail> {
 }
 
 /// The bytes with one byte changed.
-pub fn changed(alloc: Global, bytes: &[u8], at: usize, by: u8) -> Result<Packet, Fail> {
+pub(crate) fn changed(alloc: Global, bytes: &[u8], at: usize, by: u8) -> Result<Packet, Fail> {
     let mut bytes = Vec::from_slice(alloc, bytes)?;
     if let Some(byte) = bytes.get_mut(at) {
         *byte ^= by;
@@ -70,7 +70,7 @@ pub fn changed(alloc: Global, bytes: &[u8], at: usize, by: u8) -> Result<Packet,
 }
 
 /// The answer of a replica to bytes of replica 0, as a letter.
-pub fn answer(replica: &mut Replica, bytes: Packet) -> Result<u8, Fail> {
+pub(crate) fn answer(replica: &mut Replica, bytes: Packet) -> Result<u8, Fail> {
     replica.prepare(Event::Deliver { from: 0, bytes })?;
     Ok(match replica.act()? {
         Reason::Done => b'd',
@@ -110,7 +110,7 @@ fn only_the_same_seal_of_the_same_statement_is_known(rt: HostRuntime) -> Result<
 }
 
 /// The second block of a replica, with the message that carries it.
-pub fn second_block(alloc: Global, replica: &Replica) -> Result<Vec<Packet>, Fail> {
+pub(crate) fn second_block(alloc: Global, replica: &Replica) -> Result<Vec<Packet>, Fail> {
     let mut blocks = Vec::new(alloc);
     if let Some(bytes) = replica.give(0, 1)? {
         blocks.push(Packet::of(bytes)?)?;

@@ -21,7 +21,7 @@ const OTHER: Tx = Tx {
 };
 
 /// Five replicas after a run in which a transaction arrived at each. Messages to replica `held` are held back.
-pub fn played(alloc: Global, held: u32) -> Result<Cluster, Fail> {
+pub(crate) fn played(alloc: Global, held: u32) -> Result<Cluster, Fail> {
     let mut cluster = new_cluster(alloc)?;
     for me in 0..5 {
         let txs = [TX].to_vec(alloc)?;

@@ -10,11 +10,11 @@ use std::test::Fail;
 use std::thread::Threads;
 use themis_calls::{Outcome, themis};
 
-pub const ORDINARY: &str =
+pub(crate) const ORDINARY: &str =
     "setting 5 1 1 1\norder 1.1.0 2.1.0\norder 1.1.0 2.1.0\norder 1.1.0 2.1.0\norder 1.1.0 2.1.0\n";
 
 /// The arguments in a text. A bar ends each argument.
-pub fn arguments_of(alloc: Global, text: &str) -> Result<Vec<String>, NoMemory> {
+fn arguments_of(alloc: Global, text: &str) -> Result<Vec<String>, NoMemory> {
     let mut all = Vec::new(alloc);
     for argument in text.split_terminator('|') {
         all.push(String::from_str(alloc, argument)?)?;
@@ -24,14 +24,14 @@ pub fn arguments_of(alloc: Global, text: &str) -> Result<Vec<String>, NoMemory> 
 
 /// An outcome: the number and the text of its status, the count of bytes read, and whether it has a run.
 #[derive(Drop)]
-pub struct Summary {
-    pub number: u8,
-    pub message: String,
-    pub used: u64,
-    pub has_run: bool,
+pub(crate) struct Summary {
+    pub(crate) number: u8,
+    pub(crate) message: String,
+    pub(crate) used: u64,
+    pub(crate) has_run: bool,
 }
 
-pub fn summary_of(alloc: Global, outcome: &Outcome) -> Result<Summary, NoMemory> {
+fn summary_of(alloc: Global, outcome: &Outcome) -> Result<Summary, NoMemory> {
     Ok(Summary {
         number: outcome.status.number(),
         message: outcome.status.to_string(alloc)?,
@@ -42,7 +42,7 @@ pub fn summary_of(alloc: Global, outcome: &Outcome) -> Result<Summary, NoMemory>
 
 /// Runs a command over any devices. All tests call `themis` through this function. It has no clause about the outcome,
 /// which keeps the obligations of each test short.
-pub fn run_program<R: Threads + Wait + Sync, S: Source, K: Sink, M: CheckerMaker>(
+pub(crate) fn run_program<R: Threads + Wait + Sync, S: Source, K: Sink, M: CheckerMaker>(
     rt: &R,
     alloc: Global,
     arguments: &str,
@@ -56,26 +56,26 @@ pub fn run_program<R: Threads + Wait + Sync, S: Source, K: Sink, M: CheckerMaker
 
 /// The outcome of a call, and the written bytes.
 #[derive(Drop)]
-pub struct Answer {
-    pub summary: Summary,
-    pub written: Bytes,
+pub(crate) struct Answer {
+    pub(crate) summary: Summary,
+    pub(crate) written: Bytes,
 }
 
 /// A source in memory whose call with this number fails. No call has the number 0.
-pub fn source_of(alloc: Global, input: &[u8], failing: u64) -> Result<MemSource, NoMemory> {
+pub(crate) fn source_of(alloc: Global, input: &[u8], failing: u64) -> Result<MemSource, NoMemory> {
     let bytes = Bytes::of(Vec::from_slice(alloc, input)?);
     Ok(MemSource::new(bytes, vec![in alloc; failing]?))
 }
 
 /// A sink in memory that accepts at most `most` bytes in one call, and whose call with this number fails.
-pub fn sink_of(alloc: Global, most: usize, failing: u64) -> Result<MemSink, NoMemory>
+pub(crate) fn sink_of(alloc: Global, most: usize, failing: u64) -> Result<MemSink, NoMemory>
     requires { 1 ≤ most }
 {
     MemSink::new(alloc, most, 262_144, vec![in alloc; failing]?)
 }
 
 /// Runs a command over devices in memory.
-pub fn called<R: Threads + Wait + Sync, M: CheckerMaker>(
+pub(crate) fn called<R: Threads + Wait + Sync, M: CheckerMaker>(
     rt: &R,
     alloc: Global,
     arguments: &str,
@@ -87,7 +87,7 @@ pub fn called<R: Threads + Wait + Sync, M: CheckerMaker>(
     answer_of(alloc, summary, sink.written())
 }
 
-pub fn answer_of(alloc: Global, summary: Summary, written: &[u8]) -> Result<Answer, NoMemory> {
+fn answer_of(alloc: Global, summary: Summary, written: &[u8]) -> Result<Answer, NoMemory> {
     Ok(Answer {
         summary,
         written: Bytes::of(Vec::from_slice(alloc, written)?),
@@ -95,7 +95,7 @@ pub fn answer_of(alloc: Global, summary: Summary, written: &[u8]) -> Result<Answ
 }
 
 /// The same over devices that never fail.
-pub fn call<R: Threads + Wait + Sync, M: CheckerMaker>(
+pub(crate) fn call<R: Threads + Wait + Sync, M: CheckerMaker>(
     rt: &R,
     alloc: Global,
     arguments: &str,
@@ -109,7 +109,7 @@ pub fn call<R: Threads + Wait + Sync, M: CheckerMaker>(
 
 /// Whether a call reads its whole input, ends with this status number, writes this text, and has a run if a run is
 /// expected.
-pub fn answers<R: Threads + Wait + Sync, M: CheckerMaker>(
+pub(crate) fn answers<R: Threads + Wait + Sync, M: CheckerMaker>(
     rt: &R,
     alloc: Global,
     arguments: &str,
@@ -125,19 +125,13 @@ pub fn answers<R: Threads + Wait + Sync, M: CheckerMaker>(
     )
 }
 
-pub fn is_expected(
-    summary: &Summary,
-    arguments: &str,
-    input: &[u8],
-    number: u8,
-    text: &[u8],
-) -> bool {
+fn is_expected(summary: &Summary, arguments: &str, input: &[u8], number: u8, text: &[u8]) -> bool {
     summary.number == number
         && summary.used == input.len() as u64
         && summary.has_run == (shows_run(arguments) && !text.is_empty())
 }
 
-pub fn shows_run(arguments: &str) -> bool {
+fn shows_run(arguments: &str) -> bool {
     match arguments {
         "replay|" | "run|" | "trace|" | "audit|" => true,
         _ => false,
@@ -146,7 +140,7 @@ pub fn shows_run(arguments: &str) -> bool {
 
 /// Fails at the first case with another answer than expected. A case has arguments, an input, a status number and a
 /// text.
-pub fn all_answer<R: Threads + Wait + Sync, M: CheckerMaker>(
+pub(crate) fn all_answer<R: Threads + Wait + Sync, M: CheckerMaker>(
     rt: &R,
     alloc: Global,
     maker: &M,
@@ -171,7 +165,7 @@ pub fn all_answer<R: Threads + Wait + Sync, M: CheckerMaker>(
 
 /// Fails at the first case that is not refused as a bad plan with the expected message, or writes something. A case has
 /// arguments, an input and a message.
-pub fn all_refused<R: Threads + Wait + Sync>(
+pub(crate) fn all_refused<R: Threads + Wait + Sync>(
     rt: &R,
     alloc: Global,
     cases: &[(&str, &str, &str)],
@@ -185,7 +179,7 @@ pub fn all_refused<R: Threads + Wait + Sync>(
     Ok(())
 }
 
-pub fn is_refused<R: Threads + Wait + Sync>(
+fn is_refused<R: Threads + Wait + Sync>(
     rt: &R,
     alloc: Global,
     arguments: &str,

@@ -24,7 +24,7 @@ const BUSY: &str =
 
 /// Whether a run of five honest replicas ends as expected. It is done if and only if the line of each replica ends with
 /// `all`, the count of all transactions. Otherwise it stalled after `ticks` ticks or `turns` turns.
-pub fn ends_right(answer: &Answer, all: &str, ticks: u32, turns: u32) -> bool {
+pub(crate) fn ends_right(answer: &Answer, all: &str, ticks: u32, turns: u32) -> bool {
     let Ok(text) = str::from_utf8(answer.written.as_slice()) else {
         return false;
     };

@@ -29,7 +29,7 @@ fn chains_wait_for_missing_pairs(rt: HostRuntime) -> Result<(), Fail> {
     Ok(())
 }
 
-pub const fn tx(client: u32) -> Tx {
+pub(crate) const fn tx(client: u32) -> Tx {
     Tx {
         client,
         number: 1,
@@ -93,7 +93,7 @@ fn block(alloc: Global, orders: Vec<SealedOrder>) -> Block
 }
 
 /// A block of eight orders that list only this transaction.
-pub fn block_of_one(alloc: Global, client: u32) -> Result<Block, NoMemory>
+pub(crate) fn block_of_one(alloc: Global, client: u32) -> Result<Block, NoMemory>
     ensures { IfOk result IsWithin }
 {
     let mut orders = Vec::new(alloc);
@@ -210,7 +210,7 @@ fn are_one_by_one(batches: &[TxList]) -> bool {
         && is_of(batches.get(2), 3)
 }
 
-pub fn is_of(batch: Option<&TxList>, client: u32) -> bool {
+pub(crate) fn is_of(batch: Option<&TxList>, client: u32) -> bool {
     match batch {
         Some(batch) => batch.as_slice() == [tx(client)].as_slice(),
         None => false,

@@ -30,7 +30,7 @@ fn stores_keep_blocks_by_their_digests(rt: HostRuntime) -> Result<(), Fail> {
 const OTHER: Digest = Digest([7; 32]);
 
 /// A block without orders, under a certificate without votes.
-pub fn block(alloc: Global, view: u32, parent: Digest, parent_view: u32) -> Block
+pub(crate) fn block(alloc: Global, view: u32, parent: Digest, parent_view: u32) -> Block
     ensures { IsWithin result }
 {
     Block {
@@ -45,7 +45,7 @@ pub fn block(alloc: Global, view: u32, parent: Digest, parent_view: u32) -> Bloc
 }
 
 /// Stores such a block. No clause states this, which keeps the obligations of each test short.
-pub fn put(
+pub(crate) fn put(
     alloc: Global,
     store: &mut BlockStore,
     view: u32,
@@ -57,13 +57,13 @@ pub fn put(
 
 /// Blocks a, b and c with the views 1, 2 and 3, each the parent of the next.
 #[derive(Drop)]
-pub struct Three {
-    pub a: Digest,
-    pub b: Digest,
-    pub c: Digest,
+pub(crate) struct Three {
+    pub(crate) a: Digest,
+    pub(crate) b: Digest,
+    pub(crate) c: Digest,
 }
 
-pub fn line(alloc: Global, store: &mut BlockStore) -> Result<Three, StoreFault> {
+pub(crate) fn line(alloc: Global, store: &mut BlockStore) -> Result<Three, StoreFault> {
     let a = put(alloc, store, 1, Digest::FIRST, 0)?;
     let b = put(alloc, store, 2, a, 1)?;
     let c = put(alloc, store, 3, b, 2)?;

@@ -4,8 +4,8 @@ use intake::Chain;
 use seq_base::{NoMemory, Tx};
 use std::alloc::Global;
 
-pub struct Blocks {
-    pub proposed: IndexSet<Tx>,
+pub(crate) struct Blocks {
+    pub(crate) proposed: IndexSet<Tx>,
 }
 
 impl Drop for Blocks {
@@ -15,7 +15,7 @@ impl Drop for Blocks {
 }
 
 impl Blocks {
-    pub fn new(alloc: Global) -> Blocks {
+    pub(crate) fn new(alloc: Global) -> Blocks {
         Blocks {
             proposed: IndexSet::new(alloc),
         }

@@ -7,7 +7,7 @@ use seq_base::{NoMemory, Setting, Tx};
 use std::alloc::Global;
 use std::test::Fail;
 
-pub fn taken(answer: Taken) -> &'static str {
+pub(crate) fn taken(answer: Taken) -> &'static str {
     match answer {
         Taken::Final => "F ",
         Taken::Held => "H ",
@@ -27,7 +27,7 @@ fn standing(answer: Standing) -> &'static str {
 }
 
 /// A number below the count of replicas.
-pub fn peer(desk: &Desk, number: u64) -> u32
+pub(crate) fn peer(desk: &Desk, number: u64) -> u32
     ensures { result < desk.now.n }
 {
     u32::try_from(number).unwrap_or(0) % desk.n()

@@ -4,7 +4,7 @@ use std::alloc::Global;
 use std::str::SplitWhitespace;
 
 /// What is left of a script.
-pub struct Words<'a> {
+pub(crate) struct Words<'a> {
     words: SplitWhitespace<'a>,
 }
 
@@ -15,35 +15,35 @@ impl<'a> Drop for Words<'a> {
 }
 
 impl<'a> Words<'a> {
-    pub fn new(script: &'a str) -> Words<'a> {
+    pub(crate) fn new(script: &'a str) -> Words<'a> {
         Words {
             words: script.split_whitespace(),
         }
     }
 
-    pub fn word(&mut self) -> Option<&'a str> {
+    pub(crate) fn word(&mut self) -> Option<&'a str> {
         self.words.next()
     }
 
     /// The next number, or 0 at the end.
-    pub fn number(&mut self) -> u64 {
+    pub(crate) fn number(&mut self) -> u64 {
         match self.words.next() {
             None => 0,
             Some(word) => value_of(word),
         }
     }
 
-    pub fn tx(&mut self) -> Tx {
+    pub(crate) fn tx(&mut self) -> Tx {
         tx(self.number())
     }
 }
 
-pub fn value_of(word: &str) -> u64 {
+fn value_of(word: &str) -> u64 {
     word.parse::<u64>().unwrap_or(0)
 }
 
 /// A transaction by its number.
-pub fn tx(number: u64) -> Tx {
+pub(crate) fn tx(number: u64) -> Tx {
     Tx {
         client: 1,
         number: (number % 100_000) as u32,
@@ -52,8 +52,8 @@ pub fn tx(number: u64) -> Tx {
 }
 
 /// The text that a run writes.
-pub struct Text {
-    pub text: String,
+pub(crate) struct Text {
+    pub(crate) text: String,
 }
 
 impl Drop for Text {
@@ -63,18 +63,18 @@ impl Drop for Text {
 }
 
 impl Text {
-    pub fn new(alloc: Global) -> Text {
+    pub(crate) fn new(alloc: Global) -> Text {
         Text {
             text: String::new(alloc),
         }
     }
 
-    pub fn mark(&mut self, mark: &str) -> Result<(), NoMemory> {
+    pub(crate) fn mark(&mut self, mark: &str) -> Result<(), NoMemory> {
         self.text.push_str(mark)?;
         Ok(())
     }
 
-    pub fn number(&mut self, number: u64) -> Result<(), NoMemory> {
+    pub(crate) fn number(&mut self, number: u64) -> Result<(), NoMemory> {
         use std::fmt::Write;
         match write!(self.text, "{number} ") {
             Ok(()) => Ok(()),
@@ -82,7 +82,7 @@ impl Text {
         }
     }
 
-    pub fn txs(&mut self, txs: &[Tx]) -> Result<(), NoMemory> {
+    pub(crate) fn txs(&mut self, txs: &[Tx]) -> Result<(), NoMemory> {
         self.mark("[ ")?;
         for tx in txs {
             self.number(u64::from(tx.number))?;

@@ -7,7 +7,7 @@ use std::collections::VecDeque;
 use std::test::Fail;
 
 /// The replica that crashes. It leads the first view.
-pub const STOPPED: usize = 1;
+pub(crate) const STOPPED: usize = 1;
 
 /// A message that is sent and not delivered yet.
 #[derive(Drop)]
@@ -18,14 +18,14 @@ struct Envelope {
 }
 
 /// Bytes instead of the digest of all replicas' public keys.
-pub const KEYS: [u8; 32] = [7; 32];
+pub(crate) const KEYS: [u8; 32] = [7; 32];
 
-pub fn checker(alloc: Global) -> Result<TagChecker, Fail> {
+pub(crate) fn checker(alloc: Global) -> Result<TagChecker, Fail> {
     Ok(TagMaker::new(alloc).make(7, Height::H5, 5)?.checker)
 }
 
 /// A new node, for one of five replicas.
-pub fn node(alloc: Global, replica: usize) -> Result<Node<TagSealer>, Fail> {
+pub(crate) fn node(alloc: Global, replica: usize) -> Result<Node<TagSealer>, Fail> {
     if replica >= 5 {
         return Err(Fail::new("no such replica"));
     }
@@ -138,7 +138,7 @@ fn deliver_all(run: &mut Run, checker: &TagChecker) -> Result<(), Fail> {
 }
 
 /// The node of the last replica after that run.
-pub fn node_after(alloc: Global, checker: &TagChecker) -> Result<Node<TagSealer>, Fail> {
+pub(crate) fn node_after(alloc: Global, checker: &TagChecker) -> Result<Node<TagSealer>, Fail> {
     let mut run = begun(alloc, checker)?;
     deliver_all(&mut run, checker)?;
     match run.nodes.pop() {
@@ -148,7 +148,7 @@ pub fn node_after(alloc: Global, checker: &TagChecker) -> Result<Node<TagSealer>
 }
 
 /// The journal of the replica that crashes, in a run that continues until all messages are delivered.
-pub fn entries(alloc: Global) -> Result<Vec<Entry>, Fail> {
+pub(crate) fn entries(alloc: Global) -> Result<Vec<Entry>, Fail> {
     let checker = checker(alloc)?;
     let mut run = begun(alloc, &checker)?;
     deliver_all(&mut run, &checker)?;

@@ -39,7 +39,7 @@ fn faults_of(name: &str) -> &'static str {
 }
 
 /// The plan with these faults and restarts.
-pub fn plan_of(alloc: Global, faults: &str, restarts: &str) -> Result<Plan, Fail>
+pub(crate) fn plan_of(alloc: Global, faults: &str, restarts: &str) -> Result<Plan, Fail>
     ensures rules { IfOk result KeepsRules }
     ensures five { IfOk result (λ plan. plan.setting.n ≡ 5) }
 {
@@ -53,13 +53,13 @@ pub fn plan_of(alloc: Global, faults: &str, restarts: &str) -> Result<Plan, Fail
 }
 
 /// The bytes of a run's trace, which has its journals, its heads and its batches.
-pub fn trace_of(alloc: Global, plan: &Plan, run: &RunRecord) -> Result<Bytes, Fail> {
+pub(crate) fn trace_of(alloc: Global, plan: &Plan, run: &RunRecord) -> Result<Bytes, Fail> {
     let keys = Keys::Seed(plan.seed);
     Ok(write_trace(alloc, run, &keys, plan.height, plan.views)?)
 }
 
 /// The trace of the run without restarts.
-pub fn played(alloc: Global, plan: &Plan) -> Result<Bytes, Fail>
+pub(crate) fn played(alloc: Global, plan: &Plan) -> Result<Bytes, Fail>
     requires rules { KeepsRules plan.now }
 {
     let kit = TagMaker::new(alloc).make(plan.seed, plan.height, plan.setting.n())?;
@@ -84,7 +84,7 @@ fn kept<K: Keeper>(
 }
 
 /// Five keepers that never fail.
-pub fn steady(alloc: Global) -> Result<Vec<SteadyKeeper>, Fail>
+pub(crate) fn steady(alloc: Global) -> Result<Vec<SteadyKeeper>, Fail>
     ensures count { IfOk result (λ keepers. length keepers.items ≡ 5) }
     ensures new { IfOk result (λ keepers. All (λ k. k ≡ record { bytes = []; durable_size = 0; openings = 0; begun = false }) keepers.items) }
 {

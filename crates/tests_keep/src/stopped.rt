@@ -14,7 +14,7 @@ use std::test::Fail;
 const WITHIN: usize = 5;
 
 /// The replica, started from what its keeper holds, with a new sealer; or why it does not start.
-pub fn start_with(
+pub(crate) fn start_with(
     alloc: Global,
     keeper: MemKeeper,
 ) -> Result<Result<DurableNode<TagSealer, MemKeeper>, KeptFault>, Fail>
@@ -42,7 +42,10 @@ pub fn start_with(
 }
 
 /// The replica, which has to start.
-pub fn started(alloc: Global, keeper: MemKeeper) -> Result<DurableNode<TagSealer, MemKeeper>, Fail>
+pub(crate) fn started(
+    alloc: Global,
+    keeper: MemKeeper,
+) -> Result<DurableNode<TagSealer, MemKeeper>, Fail>
     requires { keeper.begun ≡ false }
 {
     match start_with(alloc, keeper)? {
@@ -198,7 +201,7 @@ fn continues(
 }
 
 /// Whether the reopened replica continues like the node that never crashed.
-pub fn recovers(
+pub(crate) fn recovers(
     alloc: Global,
     keeper: MemKeeper,
     entries: &[Entry],
@@ -247,13 +250,13 @@ fn seals(entries: &[Entry], at: usize) -> bool {
 }
 
 /// The log of a replica that crashed after `count` events.
-pub fn log_after(alloc: Global, entries: &[Entry], count: usize) -> Result<Vec<u8>, Fail> {
+pub(crate) fn log_after(alloc: Global, entries: &[Entry], count: usize) -> Result<Vec<u8>, Fail> {
     let keeper = stopped_after(alloc, entries, count, Vec::new(alloc), Vec::new(alloc))?;
     Ok(Vec::from_slice(alloc, keeper.bytes())?)
 }
 
 /// The size of the log of a replica that crashed after `count` events.
-pub fn kept_after(alloc: Global, entries: &[Entry], count: usize) -> Result<usize, Fail> {
+pub(crate) fn kept_after(alloc: Global, entries: &[Entry], count: usize) -> Result<usize, Fail> {
     let keeper = stopped_after(alloc, entries, count, Vec::new(alloc), Vec::new(alloc))?;
     Ok(keeper.bytes().len())
 }

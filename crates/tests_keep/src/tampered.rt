@@ -9,7 +9,7 @@ use std::alloc::Global;
 use std::test::Fail;
 
 /// A keeper that holds these bytes, all durable, and is not open.
-pub fn holding(alloc: Global, bytes: &[u8]) -> Result<MemKeeper, Fail>
+pub(crate) fn holding(alloc: Global, bytes: &[u8]) -> Result<MemKeeper, Fail>
     ensures { IfOk result (λ keeper. keeper.begun ≡ false) }
 {
     let mut keeper = MemKeeper::new(alloc, Vec::new(alloc), Vec::new(alloc));
@@ -21,7 +21,7 @@ pub fn holding(alloc: Global, bytes: &[u8]) -> Result<MemKeeper, Fail>
 }
 
 /// Why the replica does not start over these bytes; None if it does.
-pub fn fault_of(alloc: Global, bytes: &[u8]) -> Result<Option<KeptFault>, Fail> {
+pub(crate) fn fault_of(alloc: Global, bytes: &[u8]) -> Result<Option<KeptFault>, Fail> {
     Ok(start_with(alloc, holding(alloc, bytes)?)?.err())
 }
 
@@ -59,7 +59,7 @@ fn a_log_holds_records_with_checks(rt: HostRuntime) -> Result<(), Fail> {
     Ok(())
 }
 
-pub fn changed(alloc: Global, log: &[u8], at: usize) -> Result<Vec<u8>, Fail> {
+pub(crate) fn changed(alloc: Global, log: &[u8], at: usize) -> Result<Vec<u8>, Fail> {
     let mut log = Vec::from_slice(alloc, log)?;
     if at < log.len() {
         log[at] ^= 0x40;

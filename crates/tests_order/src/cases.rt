@@ -51,7 +51,7 @@ const NOTHING: &str = "setting 5 1 1 1\norder\norder\norder\norder\n";
 /// Fails at the first case with another answer than expected, and reports that answer. A case is a line with bars
 /// between its parts: the question, the input, and the expected answer. The input is the name of a text above, or a
 /// text in which slashes replace the ends of lines.
-pub fn check_cases(alloc: Global, cases: &str) -> Result<(), Fail> {
+pub(crate) fn check_cases(alloc: Global, cases: &str) -> Result<(), Fail> {
     for case in cases.lines() {
         check_case(alloc, case)?;
     }

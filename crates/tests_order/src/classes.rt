@@ -20,13 +20,13 @@ fn classes_are_by_the_count_of_lists(rt: HostRuntime) -> Result<(), Fail> {
     check_cases(rt.alloc(), CLASSES)
 }
 
-pub fn write_classes(answer: &mut String, alloc: Global, text: &str) -> Result<(), Fail> {
+pub(crate) fn write_classes(answer: &mut String, alloc: Global, text: &str) -> Result<(), Fail> {
     let text = read_order_text(alloc, text.as_bytes())?;
     let classes = classify(alloc, &text.setting, text.lists.as_slice())?;
     write_all(answer, &classes)
 }
 
-pub fn write_no_lists(answer: &mut String, alloc: Global) -> Result<(), Fail> {
+pub(crate) fn write_no_lists(answer: &mut String, alloc: Global) -> Result<(), Fail> {
     let classes = classify(alloc, &Setting::new(5, 1, 1, 1)?, &[])?;
     write_all(answer, &classes)
 }

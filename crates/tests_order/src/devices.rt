@@ -24,7 +24,7 @@ fn devices_move_their_bytes(rt: HostRuntime) -> Result<(), Fail> {
     check_cases(rt.alloc(), DEVICES)
 }
 
-pub fn write_source(answer: &mut String, alloc: Global, device: &str) -> Result<(), Fail> {
+pub(crate) fn write_source(answer: &mut String, alloc: Global, device: &str) -> Result<(), Fail> {
     match device {
         "memory" => write_memory_source(answer, alloc),
         "steady" => {
@@ -41,7 +41,7 @@ fn write_memory_source(answer: &mut String, alloc: Global) -> Result<(), Fail> {
     read_pieces(answer, &mut source, 4)
 }
 
-pub fn write_sink(answer: &mut String, alloc: Global, device: &str) -> Result<(), Fail> {
+pub(crate) fn write_sink(answer: &mut String, alloc: Global, device: &str) -> Result<(), Fail> {
     match device {
         "memory" => write_memory_sink(answer, alloc),
         "steady" => write_pieces(answer, &mut SteadySink::new(), "abc/"),

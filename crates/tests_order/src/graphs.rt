@@ -85,7 +85,7 @@ fn components_and_batches_are_numbered_along_edges(rt: HostRuntime) -> Result<()
 }
 
 /// The transaction of a client in the cases.
-pub fn tx(client: u32) -> Tx {
+pub(crate) fn tx(client: u32) -> Tx {
     Tx {
         client,
         number: 1,
@@ -94,21 +94,21 @@ pub fn tx(client: u32) -> Tx {
 }
 
 /// A space and the client of a transaction, with a star if it is not the one of the cases.
-pub fn write_client(answer: &mut String, known: &Tx) -> Result<(), Fail> {
+pub(crate) fn write_client(answer: &mut String, known: &Tx) -> Result<(), Fail> {
     let client = known.client;
     let star = if *known == tx(client) { "" } else { "*" };
     Ok(write!(answer, " {client}{star}")?)
 }
 
 /// The clients of transactions.
-pub fn write_clients(answer: &mut String, txs: &[Tx]) -> Result<(), Fail> {
+pub(crate) fn write_clients(answer: &mut String, txs: &[Tx]) -> Result<(), Fail> {
     for known in txs {
         write_client(answer, known)?;
     }
     Ok(())
 }
 
-pub fn write_edges(answer: &mut String, graph: &Proposal) -> Result<(), Fail> {
+pub(crate) fn write_edges(answer: &mut String, graph: &Proposal) -> Result<(), Fail> {
     for u in 0..graph.len() {
         answer.push('|')?;
         for v in 0..graph.len() {
@@ -118,7 +118,7 @@ pub fn write_edges(answer: &mut String, graph: &Proposal) -> Result<(), Fail> {
     Ok(())
 }
 
-pub fn sign_of(edge: Edge) -> char {
+pub(crate) fn sign_of(edge: Edge) -> char {
     match edge {
         Edge::To => '>',
         Edge::From => '<',
@@ -126,7 +126,7 @@ pub fn sign_of(edge: Edge) -> char {
     }
 }
 
-pub fn write_missing(answer: &mut String, graph: &Proposal) -> Result<(), Fail> {
+pub(crate) fn write_missing(answer: &mut String, graph: &Proposal) -> Result<(), Fail> {
     match graph.first_missing() {
         Some((u, v)) => Ok(write!(answer, "{u} {v}")?),
         None => Ok(answer.push_str("none")?),
@@ -134,7 +134,7 @@ pub fn write_missing(answer: &mut String, graph: &Proposal) -> Result<(), Fail> 
 }
 
 /// The edges after the first missing pair gets this one.
-pub fn write_given(answer: &mut String, mut graph: Proposal, to: bool) -> Result<(), Fail> {
+pub(crate) fn write_given(answer: &mut String, mut graph: Proposal, to: bool) -> Result<(), Fail> {
     if let Some((u, v)) = graph.first_missing() {
         graph.set_edge(u, v, to);
     }
@@ -142,7 +142,7 @@ pub fn write_given(answer: &mut String, mut graph: Proposal, to: bool) -> Result
 }
 
 /// The edges and the clients of the first and the third of three vertices.
-pub fn write_first_and_third(answer: &mut String, graph: Proposal) -> Result<(), Fail> {
+pub(crate) fn write_first_and_third(answer: &mut String, graph: Proposal) -> Result<(), Fail> {
     if graph.len() != 3 {
         return Ok(());
     }
@@ -156,7 +156,11 @@ fn write_kept(answer: &mut String, graph: &Proposal) -> Result<(), Fail> {
     write_clients(answer, graph.as_slice())
 }
 
-pub fn write_walks(answer: &mut String, alloc: Global, graph: &Proposal) -> Result<(), Fail> {
+pub(crate) fn write_walks(
+    answer: &mut String,
+    alloc: Global,
+    graph: &Proposal,
+) -> Result<(), Fail> {
     let reach = closure(alloc, graph)?;
     write_reach(answer, graph.len(), &reach)
 }
@@ -173,7 +177,11 @@ fn write_reach(answer: &mut String, count: u32, reach: &Reach) -> Result<(), Fai
     Ok(())
 }
 
-pub fn write_components(answer: &mut String, alloc: Global, graph: &Proposal) -> Result<(), Fail> {
+pub(crate) fn write_components(
+    answer: &mut String,
+    alloc: Global,
+    graph: &Proposal,
+) -> Result<(), Fail> {
     let groups = components(alloc, graph)?;
     write_groups(answer, groups.count(), groups.as_slice())
 }
@@ -183,14 +191,18 @@ fn write_groups(answer: &mut String, count: u32, numbers: &[u32]) -> Result<(), 
     write_numbers(answer, numbers)
 }
 
-pub fn write_numbers(answer: &mut String, numbers: &[u32]) -> Result<(), Fail> {
+pub(crate) fn write_numbers(answer: &mut String, numbers: &[u32]) -> Result<(), Fail> {
     for number in numbers {
         write!(answer, " {number}")?;
     }
     Ok(())
 }
 
-pub fn write_shared(answer: &mut String, alloc: Global, graph: &Proposal) -> Result<(), Fail> {
+pub(crate) fn write_shared(
+    answer: &mut String,
+    alloc: Global,
+    graph: &Proposal,
+) -> Result<(), Fail> {
     let groups = components(alloc, graph)?;
     write_shares(answer, graph.len(), &groups)
 }
@@ -210,7 +222,11 @@ fn write_shares(answer: &mut String, len: u32, groups: &Grouping) -> Result<(), 
     Ok(())
 }
 
-pub fn write_batches_of(answer: &mut String, alloc: Global, graph: &Proposal) -> Result<(), Fail> {
+pub(crate) fn write_batches_of(
+    answer: &mut String,
+    alloc: Global,
+    graph: &Proposal,
+) -> Result<(), Fail> {
     match batches(alloc, graph) {
         Ok(batches) => write_batches(answer, &batches),
         Err(fault) => write_fault(answer, &fault),

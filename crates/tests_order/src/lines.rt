@@ -27,7 +27,11 @@ fn each_comes_before_the_first_that_it_has_an_edge_to(rt: HostRuntime) -> Result
     check_cases(rt.alloc(), LINES)
 }
 
-pub fn write_lines(answer: &mut String, alloc: Global, graph: &Proposal) -> Result<(), Fail> {
+pub(crate) fn write_lines(
+    answer: &mut String,
+    alloc: Global,
+    graph: &Proposal,
+) -> Result<(), Fail> {
     let batches = batches(alloc, graph)?;
     write_lines_of(answer, alloc, graph, &batches)
 }
@@ -55,7 +59,7 @@ fn write_line(answer: &mut String, line: &[Tx]) -> Result<(), Fail> {
 }
 
 /// The numbers of three vertices in the order of their line, if no edge is missing.
-pub fn write_line_of_three(
+pub(crate) fn write_line_of_three(
     answer: &mut String,
     alloc: Global,
     graph: &Proposal,

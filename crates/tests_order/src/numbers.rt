@@ -72,7 +72,7 @@ fn transactions_and_numbers_are_read(rt: HostRuntime) -> Result<(), Fail> {
 }
 
 /// `fits`, or the fault of a setting.
-pub fn write_setting(answer: &mut String, numbers: &str) -> Result<(), Fail> {
+pub(crate) fn write_setting(answer: &mut String, numbers: &str) -> Result<(), Fail> {
     match setting_of(numbers) {
         Ok(_) => Ok(answer.push_str("fits")?),
         Err(fault) => Ok(write!(answer, "{fault}")?),
@@ -89,7 +89,7 @@ fn setting_of(numbers: &str) -> Result<Setting, SettingFault> {
 }
 
 /// The numbers of a setting, its three counts, and the leaders of views 0, 8 and 9.
-pub fn write_counts(answer: &mut String, numbers: &str) -> Result<(), Fail> {
+pub(crate) fn write_counts(answer: &mut String, numbers: &str) -> Result<(), Fail> {
     let setting = setting_of(numbers)?;
     let (n, f, p, q) = (setting.n(), setting.f(), setting.p(), setting.q());
     write!(answer, "{n} {f} {p} {q}, ")?;
@@ -99,7 +99,7 @@ pub fn write_counts(answer: &mut String, numbers: &str) -> Result<(), Fail> {
     Ok(write!(answer, "{first} {last} {again}")?)
 }
 
-pub fn number_of(word: Option<&str>) -> u32 {
+pub(crate) fn number_of(word: Option<&str>) -> u32 {
     match word {
         Some(word) => parse_u32(word.as_bytes()).unwrap_or(0),
         None => 0,
@@ -107,7 +107,7 @@ pub fn number_of(word: Option<&str>) -> u32 {
 }
 
 /// A transaction that is read and written again.
-pub fn write_tx(answer: &mut String, word: &str) -> Result<(), Fail> {
+pub(crate) fn write_tx(answer: &mut String, word: &str) -> Result<(), Fail> {
     match Tx::parse(word.as_bytes()) {
         Some(tx) => Ok(write!(answer, "{tx}")?),
         None => Ok(answer.push_str("none")?),
@@ -115,7 +115,7 @@ pub fn write_tx(answer: &mut String, word: &str) -> Result<(), Fail> {
 }
 
 /// A number of 32 or 64 bits that is read and written again.
-pub fn write_number(answer: &mut String, input: &str) -> Result<(), Fail> {
+pub(crate) fn write_number(answer: &mut String, input: &str) -> Result<(), Fail> {
     let (kind, word) = input.split_once(' ').unwrap_or(("", input));
     let read = if kind == "u32" {
         parse_u32(word.as_bytes()).map(u64::from)
@@ -129,7 +129,7 @@ pub fn write_number(answer: &mut String, input: &str) -> Result<(), Fail> {
 }
 
 /// The comparisons of each transaction with each.
-pub fn write_signs(answer: &mut String, txs: &str) -> Result<(), Fail> {
+pub(crate) fn write_signs(answer: &mut String, txs: &str) -> Result<(), Fail> {
     for one in txs.split_whitespace() {
         for other in txs.split_whitespace() {
             answer.push(sign_of(Tx::parse(one.as_bytes()), Tx::parse(other.as_bytes())))?;

@@ -28,7 +28,7 @@ fn sixteen_lists_of_two_thousand_shaded_transactions_have_their_text(
     check_cases(rt.alloc(), case.as_str())
 }
 
-pub fn write_report(
+pub(crate) fn write_report(
     answer: &mut String,
     alloc: Global,
     asked: &str,
@@ -61,7 +61,7 @@ fn write_text(answer: &mut String, bytes: &[u8]) -> Result<(), Fail> {
 }
 
 /// Each of sixteen lists holds 127 transactions of its own client, followed by one that all lists hold.
-pub fn write_sixteen(answer: &mut String, alloc: Global) -> Result<(), Fail> {
+pub(crate) fn write_sixteen(answer: &mut String, alloc: Global) -> Result<(), Fail> {
     let lists = sixteen_lists(alloc)?;
     write_report(answer, alloc, "order text", lists.as_str())
 }

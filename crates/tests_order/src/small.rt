@@ -34,7 +34,7 @@ fn small_types_give_back_what_they_hold(rt: HostRuntime) -> Result<(), Fail> {
     check_cases(rt.alloc(), SMALL)
 }
 
-pub fn write_small(answer: &mut String, alloc: Global, kind: &str) -> Result<(), Fail> {
+pub(crate) fn write_small(answer: &mut String, alloc: Global, kind: &str) -> Result<(), Fail> {
     if kind == "no memory" {
         return Ok(write!(answer, "{NoMemory}")?);
     }

@@ -34,7 +34,7 @@ fn the_first_place_in_a_list_counts_in_any_order(rt: HostRuntime) -> Result<(), 
     check_cases(rt.alloc(), RANKED)
 }
 
-pub fn write_ranked(answer: &mut String, alloc: Global, text: &str) -> Result<(), Fail> {
+pub(crate) fn write_ranked(answer: &mut String, alloc: Global, text: &str) -> Result<(), Fail> {
     let text = read_order_text(alloc, text.as_bytes())?;
     let txs = [tx(3), tx(2), tx(1), tx(3)];
     let ranking = Ranking::of(alloc, &text.setting, &txs, text.lists.as_slice())?;
@@ -51,7 +51,7 @@ fn write_edges(answer: &mut String, ranking: &Ranking) -> Result<(), Fail> {
     Ok(())
 }
 
-pub fn write_doubles(answer: &mut String, alloc: Global) -> Result<(), Fail> {
+pub(crate) fn write_doubles(answer: &mut String, alloc: Global) -> Result<(), Fail> {
     let lists = doubled(alloc)?;
     let setting = Setting::new(5, 1, 1, 1)?;
     let ranking = Ranking::of(alloc, &setting, &[tx(1), tx(2)], &lists)?;

@@ -74,7 +74,7 @@ fn each_kind_of_fault_has_its_word(rt: HostRuntime) -> Result<(), Fail> {
     check_cases(rt.alloc(), KINDS)
 }
 
-pub fn write_kind(answer: &mut String, alloc: Global, word: &str) -> Result<(), Fail> {
+pub(crate) fn write_kind(answer: &mut String, alloc: Global, word: &str) -> Result<(), Fail> {
     let error = error_of(alloc, word)?;
     Ok(write!(answer, "{error}")?)
 }
@@ -104,7 +104,7 @@ fn kind_of(word: &str) -> FaultKind {
 }
 
 /// The answer for a text in which slashes replace the ends of lines.
-pub fn write_lines(answer: &mut String, alloc: Global, text: &str) -> Result<(), Fail> {
+pub(crate) fn write_lines(answer: &mut String, alloc: Global, text: &str) -> Result<(), Fail> {
     let text = text.replace(alloc, '/', "\n")?;
     write_text(answer, alloc, text.as_str())
 }
@@ -128,7 +128,7 @@ fn write_lists(answer: &mut String, setting: &Setting, lists: &[TxList]) -> Resu
 }
 
 /// The same for a text with one list of `count` transactions.
-pub fn write_count(answer: &mut String, alloc: Global, count: &str) -> Result<(), Fail> {
+pub(crate) fn write_count(answer: &mut String, alloc: Global, count: &str) -> Result<(), Fail> {
     let mut text = String::new(alloc);
     push_text(&mut text, number_of(Some(count)))?;
     write_text(answer, alloc, text.as_str())

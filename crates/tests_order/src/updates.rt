@@ -26,7 +26,11 @@ fn late_lists_give_the_missing_edge_and_turn_none(rt: HostRuntime) -> Result<(),
     check_cases(rt.alloc(), UPDATES)
 }
 
-pub fn write_weighed(answer: &mut String, alloc: Global, graph: &Proposal) -> Result<(), Fail> {
+pub(crate) fn write_weighed(
+    answer: &mut String,
+    alloc: Global,
+    graph: &Proposal,
+) -> Result<(), Fail> {
     let weighed = weighed(alloc, graph)?;
     write_edges(answer, &weighed)
 }
@@ -37,7 +41,11 @@ fn weighed(alloc: Global, graph: &Proposal) -> Result<Proposal, Fail> {
     Ok(weigh(alloc, &late.setting, vertices, late.lists.as_slice())?)
 }
 
-pub fn write_updated(answer: &mut String, alloc: Global, mut graph: Proposal) -> Result<(), Fail> {
+pub(crate) fn write_updated(
+    answer: &mut String,
+    alloc: Global,
+    mut graph: Proposal,
+) -> Result<(), Fail> {
     give_late(alloc, &mut graph)?;
     write_edges(answer, &graph)?;
     answer.push(':')?;

@@ -8,7 +8,7 @@ const WHOLE: &str =
 
 /// The cases with another answer than expected, each with its answer. A case is a line with bars between its parts:
 /// the keys that are omitted from `WHOLE`, the lines to append, with slashes between them, and the expected answer.
-pub fn mismatches(alloc: Global, cases: &str) -> Result<String, AllocError> {
+pub(crate) fn mismatches(alloc: Global, cases: &str) -> Result<String, AllocError> {
     let mut mismatches = String::new(alloc);
     for case in cases.lines() {
         let actual = actual_case(alloc, case)?;
@@ -53,7 +53,7 @@ fn is_among(key: &str, keys: &str) -> bool {
 }
 
 /// `read`, or the first fault.
-pub fn words_of(alloc: Global, text: &[u8]) -> Result<String, AllocError> {
+pub(crate) fn words_of(alloc: Global, text: &[u8]) -> Result<String, AllocError> {
     match read_plan(alloc, text) {
         Ok(_) => format!(in alloc; "read"),
         Err(error) => format!(in alloc; "{error}"),

@@ -11,7 +11,7 @@ use std::test::Fail;
 
 /// The cases with another answer than expected, each with its answer. A case is a line with bars between its parts: the
 /// questions, a word each; the input; and the expected answers. The input is a kind of seals with a plan, or a record.
-pub fn mismatches(alloc: Global, cases: &str) -> Result<String, Fail> {
+pub(crate) fn mismatches(alloc: Global, cases: &str) -> Result<String, Fail> {
     let mut mismatches = String::new(alloc);
     for case in cases.lines() {
         let actual = actual_case(alloc, case)?;
@@ -24,7 +24,7 @@ pub fn mismatches(alloc: Global, cases: &str) -> Result<String, Fail> {
 }
 
 /// Fails with the cases that have another answer than expected.
-pub fn check_cases(alloc: Global, cases: &str) -> Result<(), Fail> {
+pub(crate) fn check_cases(alloc: Global, cases: &str) -> Result<(), Fail> {
     let mismatches = mismatches(alloc, cases)?;
     if mismatches.is_empty() {
         return Ok(());
@@ -67,10 +67,10 @@ fn write_answers(answer: &mut String, checked: &Checked, asked: &str) -> Result<
 
 /// A run, and its verdict.
 #[derive(Drop)]
-pub struct Checked {
-    pub alloc: Global,
-    pub run: RunRecord,
-    pub verdict: Verdict,
+pub(crate) struct Checked {
+    pub(crate) alloc: Global,
+    pub(crate) run: RunRecord,
+    pub(crate) verdict: Verdict,
 }
 
 /// The run of an input with its verdict. The input is a record, a clean plan, or a kind of seals and the names of a
@@ -101,7 +101,7 @@ fn played<M: SealMaker>(alloc: Global, maker: &M, text: &str) -> Result<Checked,
 }
 
 /// A run with its verdict.
-pub fn with_verdict<C: Checker>(
+pub(crate) fn with_verdict<C: Checker>(
     alloc: Global,
     run: RunRecord,
     checker: &C,

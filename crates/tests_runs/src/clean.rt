@@ -136,7 +136,7 @@ fn push_txs(text: &mut String, order: &str, n: u8, count: u8) -> Result<(), Fail
 }
 
 /// The plan of a line.
-pub fn plan_of(alloc: Global, line: &str) -> Result<String, Fail> {
+pub(crate) fn plan_of(alloc: Global, line: &str) -> Result<String, Fail> {
     let mut words = line.split(' ');
     let n = number(words.next());
     let count = number(words.nth(3));

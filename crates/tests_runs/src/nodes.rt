@@ -7,7 +7,7 @@ use std::test::Fail;
 
 /// A sealer that is always out of memory.
 #[derive(Drop)]
-pub struct NeverSeals;
+pub(crate) struct NeverSeals;
 
 impl Sealer for NeverSeals {
     ghost use Rattle.std.specs.Prelude.{[]};

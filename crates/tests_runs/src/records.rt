@@ -176,13 +176,13 @@ fn checker(alloc: Global) -> Result<LooseChecker, Fail> {
 }
 
 /// A record, and its verdict if any seal fits.
-pub fn check(alloc: Global, text: &str) -> Result<Checked, Fail> {
+pub(crate) fn check(alloc: Global, text: &str) -> Result<Checked, Fail> {
     let checker = checker(alloc)?;
     with_verdict(alloc, record_of(alloc, text)?, &checker)
 }
 
 /// The first place of a record at which a vote is forged.
-pub fn forged_at(alloc: Global, input: &str) -> Result<Option<ForgedAt>, Fail> {
+pub(crate) fn forged_at(alloc: Global, input: &str) -> Result<Option<ForgedAt>, Fail> {
     let (_, text) = input.split_once(' ').unwrap_or((input, ""));
     let checker = checker(alloc)?;
     let run = record_of(alloc, text)?;
@@ -190,7 +190,7 @@ pub fn forged_at(alloc: Global, input: &str) -> Result<Option<ForgedAt>, Fail> {
 }
 
 /// The due transactions, and whether the list of the first client's transaction holds them.
-pub fn write_due(answer: &mut String, alloc: Global, run: &RunRecord) -> Result<(), Fail> {
+pub(crate) fn write_due(answer: &mut String, alloc: Global, run: &RunRecord) -> Result<(), Fail> {
     let due = due(alloc, &run.setting, &run.faulty, run.arrivals.as_slice())?;
     for tx in due.as_slice() {
         write!(answer, "{tx} ")?;
@@ -200,7 +200,7 @@ pub fn write_due(answer: &mut String, alloc: Global, run: &RunRecord) -> Result<
 }
 
 /// Whether the first replica is honest, and whether the second one is and has a list.
-pub fn write_honest(answer: &mut String, run: &RunRecord) -> Result<(), Fail> {
+pub(crate) fn write_honest(answer: &mut String, run: &RunRecord) -> Result<(), Fail> {
     write_yes_or_no(answer, is_honest(&run.setting, &run.faulty, 0))?;
     answer.push(' ')?;
     let batches = run.batches.as_slice();

@@ -11,7 +11,7 @@ use std::fmt::Write;
 use std::test::Fail;
 use wire_view::WireFault;
 
-pub fn write_one(answer: &mut String, checked: &Checked, word: &str) -> Result<(), Fail> {
+pub(crate) fn write_one(answer: &mut String, checked: &Checked, word: &str) -> Result<(), Fail> {
     let run = &checked.run;
     match word {
         "verdict" => write_verdict(answer, &checked.verdict),
@@ -36,11 +36,11 @@ fn write_other(answer: &mut String, run: &RunRecord, word: &str) -> Result<(), F
     }
 }
 
-pub fn write_word(answer: &mut String, word: &str) -> Result<(), Fail> {
+pub(crate) fn write_word(answer: &mut String, word: &str) -> Result<(), Fail> {
     Ok(answer.push_str(word)?)
 }
 
-pub fn write_yes_or_no(answer: &mut String, is: bool) -> Result<(), Fail> {
+pub(crate) fn write_yes_or_no(answer: &mut String, is: bool) -> Result<(), Fail> {
     write_word(answer, if is { "yes" } else { "no" })
 }
 
@@ -81,7 +81,7 @@ fn write_collision(answer: &mut String, alloc: Global, run: &RunRecord) -> Resul
 }
 
 /// The receiver, the entry of its journal, the part and the signer.
-pub fn write_place(answer: &mut String, place: Option<ForgedAt>) -> Result<(), Fail> {
+pub(crate) fn write_place(answer: &mut String, place: Option<ForgedAt>) -> Result<(), Fail> {
     match place {
         None => write_word(answer, "none"),
         Some(

@@ -153,7 +153,7 @@ const CLIENT_128: &str = "[[client]]\nid = 1\ncount = 128\n";
 const CLIENT_129: &str = "[[client]]\nid = 1\ncount = 129\n";
 
 /// The plan of the parts with these names.
-pub fn plan_of(alloc: Global, names: &str) -> Result<String, AllocError> {
+pub(crate) fn plan_of(alloc: Global, names: &str) -> Result<String, AllocError> {
     let mut text = String::new(alloc);
     for name in names.split_whitespace() {
         text.push_str(part_of(name))?;

@@ -64,7 +64,7 @@ fn number(word: Option<&str>) -> u32 {
     word.and_then(|word| word.parse().ok()).unwrap_or(9)
 }
 
-pub fn write_given(answer: &mut String, alloc: Global, to: &str) -> Result<(), Fail> {
+pub(crate) fn write_given(answer: &mut String, alloc: Global, to: &str) -> Result<(), Fail> {
     let mut link = link(alloc, number(Some(to)))?;
     write_passes(answer, alloc, &mut link)
 }
@@ -129,7 +129,7 @@ fn deed(text: &str) -> Deed {
 }
 
 /// Writes what is sent under these deeds. They need no seal.
-pub fn write_sent(answer: &mut String, alloc: Global, text: &str) -> Result<(), Fail> {
+pub(crate) fn write_sent(answer: &mut String, alloc: Global, text: &str) -> Result<(), Fail> {
     let sent = sent(alloc, text)?;
     write_sends(answer, &sent)
 }

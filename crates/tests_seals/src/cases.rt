@@ -6,7 +6,7 @@ use std::test::Fail;
 
 /// Fails at the first case with another answer than expected, and reports that answer. A case is a line with bars
 /// between its parts: the question, its input, and the expected answer.
-pub fn check_cases(alloc: Global, cases: &str) -> Result<(), Fail> {
+pub(crate) fn check_cases(alloc: Global, cases: &str) -> Result<(), Fail> {
     for case in cases.lines() {
         check_case(alloc, case)?;
     }
@@ -46,12 +46,17 @@ fn answer(alloc: Global, asked: &str, input: &str) -> Result<String, Fail> {
 }
 
 /// `yes` or `no`.
-pub fn word_of(is: bool) -> &'static str {
+pub(crate) fn word_of(is: bool) -> &'static str {
     if is { "yes" } else { "no" }
 }
 
 /// Two counts and a digest.
-pub fn counts_text(alloc: Global, good: u32, made: u32, all: &[u8; 32]) -> Result<String, Fail> {
+pub(crate) fn counts_text(
+    alloc: Global,
+    good: u32,
+    made: u32,
+    all: &[u8; 32],
+) -> Result<String, Fail> {
     let all = encode(alloc, all.as_slice())?;
     Ok(format!(in alloc; "{good} {made} {all}")?)
 }

@@ -29,7 +29,7 @@ fn keys_from_bytes_are_those_of_another_program(rt: HostRuntime) -> Result<(), F
     check_cases(rt.alloc(), FROM_BYTES)
 }
 
-pub fn grown_text(alloc: Global, heights: &str) -> Result<String, Fail> {
+pub(crate) fn grown_text(alloc: Global, heights: &str) -> Result<String, Fail> {
     let height = height_of(heights);
     let mut sealer = AnySealer::from_bytes(alloc, &ID, &SEED, height, 1)?;
     sealer_text(alloc, &mut sealer, height)
@@ -57,7 +57,7 @@ fn seal_text(alloc: Global, checker: &AnyChecker, seal: &[u8]) -> Result<String,
     Ok(format!(in alloc; "{digest} {own} {foreign} {changed}")?)
 }
 
-pub fn drawn_text(alloc: Global, heights: &str) -> Result<String, Fail> {
+pub(crate) fn drawn_text(alloc: Global, heights: &str) -> Result<String, Fail> {
     let height = height_of(heights);
     let mut made = LmsMaker::new(alloc).make_one(7, height, 2, 1)?;
     let mut grown = AnySealer::from_bytes(alloc, &drawn_id(7, 1), &drawn_seed(7, 1), height, 1)?;

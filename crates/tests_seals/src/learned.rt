@@ -23,7 +23,7 @@ fn what_a_checker_learned_changes_no_answer(rt: HostRuntime) -> Result<(), Fail>
     check_cases(rt.alloc(), LEARNED)
 }
 
-pub fn answers_text(alloc: Global) -> Result<String, Fail> {
+pub(crate) fn answers_text(alloc: Global) -> Result<String, Fail> {
     let mut sealer = HssSealer::start(alloc, 1, 0, Height::H5)?;
     let other = HssSealer::start(alloc, 1, 1, Height::H5)?.public();
     let mut checker = HssChecker::of(alloc, &[sealer.public(), other])?;

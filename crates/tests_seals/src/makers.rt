@@ -33,12 +33,12 @@ fn each_maker_makes_its_seals(rt: HostRuntime) -> Result<(), Fail> {
 }
 
 /// The number of seals for trees of these heights.
-pub fn capacity_text(alloc: Global, heights: &str) -> Result<String, Fail> {
+pub(crate) fn capacity_text(alloc: Global, heights: &str) -> Result<String, Fail> {
     Ok(height_of(heights).capacity().to_string(alloc)?)
 }
 
 /// The height with this name.
-pub fn height_of(heights: &str) -> Height {
+pub(crate) fn height_of(heights: &str) -> Height {
     match heights {
         "5" => Height::H5,
         "10" => Height::H10,
@@ -85,7 +85,7 @@ fn seal_of(alloc: Global, maker: &str) -> Option<Seal> {
 }
 
 /// The seal of a maker, or its digest if the seal is long.
-pub fn seal_text(alloc: Global, maker: &str) -> Result<String, Fail> {
+pub(crate) fn seal_text(alloc: Global, maker: &str) -> Result<String, Fail> {
     match seal_of(alloc, maker) {
         Some(seal) if seal.as_slice().len() > 32 => Ok(digest_of(alloc, seal.as_slice())?),
         Some(seal) => Ok(encode(alloc, seal.as_slice())?),
@@ -118,7 +118,7 @@ fn alone_alongside<M: SealGrower, S: Sealer, C: Checker>(
     Some((is_own, fits_second, fits_first))
 }
 
-pub fn alone_text(alloc: Global, maker: &str) -> Result<String, Fail> {
+pub(crate) fn alone_text(alloc: Global, maker: &str) -> Result<String, Fail> {
     let alone = match maker {
         "one level" => second_alone(&LmsMaker::new(alloc), Height::H5),
         "two levels" => second_alone(&LmsMaker::new(alloc), Height::H5H5),

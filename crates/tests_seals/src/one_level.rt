@@ -52,7 +52,7 @@ fn key_of(alloc: Global, name: &str) -> Result<LmsKey, NoMemory> {
 
 /// The number of leaves and the public key. For the keys with known signatures also the signature of a leaf: number 19
 /// of the tree of height five, and 700 of the tree of height ten.
-pub fn key_text(alloc: Global, name: &str) -> Result<String, Fail> {
+pub(crate) fn key_text(alloc: Global, name: &str) -> Result<String, Fail> {
     let key = key_of(alloc, name)?;
     match name {
         "standard" => public_text(alloc, &key),
@@ -62,7 +62,7 @@ pub fn key_text(alloc: Global, name: &str) -> Result<String, Fail> {
 }
 
 /// The key that grows after a number of calls that each add a leaf.
-pub fn growing_text(alloc: Global, count: &str) -> Result<String, Fail> {
+pub(crate) fn growing_text(alloc: Global, count: &str) -> Result<String, Fail> {
     let mut growing = GrowingKey::start(alloc, &ID, &SEED, Height::H5)?;
     for _ in 0..count.parse::<u32>().unwrap_or(0) {
         growing.add_leaf();
@@ -120,7 +120,7 @@ fn fits(checker: &LmsChecker, replica: u32, bytes: &[u8]) -> bool {
     checker.fits(replica, b"statement", bytes)
 }
 
-pub fn sealer_text(alloc: Global) -> Result<String, Fail> {
+pub(crate) fn sealer_text(alloc: Global) -> Result<String, Fail> {
     let mut sealer = LmsSealer::start(alloc, 1, 2, Height::H5)?;
     let other = LmsSealer::start(alloc, 1, 0, Height::H5)?.public();
     seals_text(alloc, &mut sealer, other)
@@ -151,7 +151,7 @@ fn count_good(sealer: &mut LmsSealer, checker: &LmsChecker, all: &mut Sha256) ->
     good
 }
 
-pub fn changes_text(alloc: Global) -> Result<String, Fail> {
+pub(crate) fn changes_text(alloc: Global) -> Result<String, Fail> {
     let key = key_of(alloc, "five")?;
     let mut bytes = signed(&key, 19)?;
     fitting_text(alloc, &key.public(), &mut bytes)

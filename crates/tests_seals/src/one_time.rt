@@ -24,9 +24,9 @@ fn one_time_signatures_have_the_bytes_of_another_program(rt: HostRuntime) -> Res
     check_cases(rt.alloc(), ONE_TIME)
 }
 
-pub const ID: [u8; 16] = [0, 1, 2, 3, 4, 5, 6, 7, 8, 9, 10, 11, 12, 13, 14, 15];
+pub(crate) const ID: [u8; 16] = [0, 1, 2, 3, 4, 5, 6, 7, 8, 9, 10, 11, 12, 13, 14, 15];
 
-pub const SEED: [u8; 32] = [
+pub(crate) const SEED: [u8; 32] = [
     100, 101, 102, 103, 104, 105, 106, 107, 108, 109, 110, 111, 112, 113, 114, 115, 116, 117, 118,
     119, 120, 121, 122, 123, 124, 125, 126, 127, 128, 129, 130, 131,
 ];
@@ -37,7 +37,7 @@ const START: [u8; 32] = [
     26, 27, 28, 29, 30, 31,
 ];
 
-pub fn chain_text(alloc: Global, steps: &str) -> Result<String, Fail> {
+pub(crate) fn chain_text(alloc: Global, steps: &str) -> Result<String, Fail> {
     let end = if steps == "no step" {
         chain(&ID, 7, 66, 3, 3, &START)
     } else {
@@ -58,7 +58,7 @@ fn signed() -> OtsSignature {
     ots_sign(&ID, 7, &SEED, b"themis")
 }
 
-pub fn signature_text(alloc: Global, part: &str) -> Result<String, Fail> {
+pub(crate) fn signature_text(alloc: Global, part: &str) -> Result<String, Fail> {
     let bytes = match part {
         "public" => ots_public(&ID, 7, &SEED),
         "random" => signed().random,
@@ -72,7 +72,7 @@ fn has_key(signature: &OtsSignature, message: &[u8]) -> bool {
     ots_candidate(&ID, 7, message, &signature.random, &signature.parts) == ots_public(&ID, 7, &SEED)
 }
 
-pub fn fit_text(alloc: Global, message: &str) -> Result<String, Fail> {
+pub(crate) fn fit_text(alloc: Global, message: &str) -> Result<String, Fail> {
     let word = word_of(has_key(&signed(), message.as_bytes()));
     Ok(String::from_str(alloc, word)?)
 }

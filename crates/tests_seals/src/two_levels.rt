@@ -25,7 +25,7 @@ fn seals_of_two_levels_are_those_of_another_program(rt: HostRuntime) -> Result<(
     check_cases(rt.alloc(), TWO_LEVELS)
 }
 
-pub fn sealer_text(alloc: Global) -> Result<String, Fail> {
+pub(crate) fn sealer_text(alloc: Global) -> Result<String, Fail> {
     let mut sealer = HssSealer::start(alloc, 1, 2, Height::H5)?;
     seals_text(alloc, &mut sealer)
 }
@@ -66,7 +66,7 @@ fn sealed(sealer: &mut HssSealer) -> Result<Vec<u8>, Fail> {
     Ok(sealer.seal(b"statement")?.into_vec())
 }
 
-pub fn changes_text(alloc: Global) -> Result<String, Fail> {
+pub(crate) fn changes_text(alloc: Global) -> Result<String, Fail> {
     let mut sealer = HssSealer::start(alloc, 1, 2, Height::H5)?;
     let mut bytes = sealed(&mut sealer)?;
     fitting_text(alloc, &sealer.public(), &mut bytes)
@@ -101,13 +101,13 @@ fn place_changed(place: usize) -> usize {
 }
 
 /// The digests of the first two seals, and whether the second fits its statement and another.
-pub fn high_text(alloc: Global) -> Result<String, Fail> {
+pub(crate) fn high_text(alloc: Global) -> Result<String, Fail> {
     let mut sealer = HssSealer::start(alloc, 1, 2, Height::H10)?;
     first_two_text(alloc, &mut sealer)
 }
 
 /// The same of the two seals after a number of others.
-pub fn later_text(alloc: Global, count: &str) -> Result<String, Fail> {
+pub(crate) fn later_text(alloc: Global, count: &str) -> Result<String, Fail> {
     let mut sealer = HssSealer::start(alloc, 1, 2, Height::H5)?;
     for _ in 0..count.parse::<u32>().unwrap_or(0) {
         sealer.seal(b"other")?;

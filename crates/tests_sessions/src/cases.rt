@@ -9,7 +9,7 @@ use std::test::Fail;
 
 /// Fails at the first case with another answer than expected, and reports that answer. A case is a line with bars
 /// between its parts: the question, two inputs, and the expected answer.
-pub fn check_cases(alloc: Global, cases: &str) -> Result<(), Fail> {
+pub(crate) fn check_cases(alloc: Global, cases: &str) -> Result<(), Fail> {
     for case in cases.lines() {
         check_case(alloc, case)?;
     }
@@ -107,6 +107,6 @@ fn word_of(is: bool) -> &'static str {
 }
 
 /// The number that a text spells, or 0.
-pub fn number_of(text: &str) -> u32 {
+pub(crate) fn number_of(text: &str) -> u32 {
     text.parse().unwrap_or(0)
 }

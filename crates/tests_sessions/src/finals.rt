@@ -8,7 +8,7 @@ use std::fmt::Write;
 use std::test::Fail;
 
 /// What is carried over, of what arrived, once the batches are added.
-pub fn write_left(
+pub(crate) fn write_left(
     answer: &mut String,
     alloc: Global,
     arrived: &str,
@@ -20,7 +20,7 @@ pub fn write_left(
 }
 
 /// Whether a batch is added after the batches, and what of it is not final then.
-pub fn write_added(
+pub(crate) fn write_added(
     answer: &mut String,
     alloc: Global,
     batch: &str,
@@ -42,7 +42,7 @@ fn add(answer: &mut String, txs: &mut FinalTxs, batch: &[Tx]) -> Result<(), Fail
 
 /// Whether a list may have arrived, after the batches. The lists are the session's number, what arrived in the session before, and
 /// what arrived, with slashes between them.
-pub fn write_arrivals(
+pub(crate) fn write_arrivals(
     answer: &mut String,
     alloc: Global,
     lists: &str,

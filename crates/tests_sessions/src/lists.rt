@@ -7,7 +7,7 @@ use std::alloc::Global;
 use std::fmt::Write;
 use std::test::Fail;
 
-pub fn read_txs(alloc: Global, text: &str) -> Result<TxList, Fail> {
+pub(crate) fn read_txs(alloc: Global, text: &str) -> Result<TxList, Fail> {
     let mut txs = Vec::new(alloc);
     for word in text.split(' ') {
         if !word.is_empty() {
@@ -29,12 +29,12 @@ fn tx_of(word: &str) -> Tx {
 }
 
 /// The batches of a session.
-pub fn read_batches(alloc: Global, text: &str) -> Result<BatchList, Fail> {
+pub(crate) fn read_batches(alloc: Global, text: &str) -> Result<BatchList, Fail> {
     read_lists(alloc, text, ',')
 }
 
 /// The arrival list of each session.
-pub fn read_arrivals(alloc: Global, text: &str) -> Result<BatchList, Fail> {
+pub(crate) fn read_arrivals(alloc: Global, text: &str) -> Result<BatchList, Fail> {
     read_lists(alloc, text, '/')
 }
 
@@ -50,7 +50,7 @@ fn read_lists(alloc: Global, text: &str, separator: char) -> Result<BatchList, F
 }
 
 /// The batches of each session.
-pub fn read_sessions(alloc: Global, text: &str) -> Result<Vec<BatchList>, Fail> {
+pub(crate) fn read_sessions(alloc: Global, text: &str) -> Result<Vec<BatchList>, Fail> {
     let mut sessions = Vec::new(alloc);
     if !text.is_empty() {
         for part in text.split('/') {
@@ -60,7 +60,7 @@ pub fn read_sessions(alloc: Global, text: &str) -> Result<Vec<BatchList>, Fail> 
     Ok(sessions)
 }
 
-pub fn write_txs(answer: &mut String, txs: &[Tx]) -> Result<(), Fail> {
+pub(crate) fn write_txs(answer: &mut String, txs: &[Tx]) -> Result<(), Fail> {
     for tx in txs {
         if tx.client == 0 {
             write!(answer, " m{}", tx.number)?;

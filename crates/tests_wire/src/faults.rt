@@ -56,7 +56,7 @@ fn each_cut_is_short_and_one_byte_more_trails(rt: HostRuntime) -> Result<(), Fai
 }
 
 /// The answers for a kind with a place and a byte, or for a kind alone, whose message gets one more byte.
-pub fn write_cuts(answer: &mut String, alloc: Global, input: &str) -> Result<(), Fail> {
+pub(crate) fn write_cuts(answer: &mut String, alloc: Global, input: &str) -> Result<(), Fail> {
     let mut words = input.split_whitespace();
     let mut bytes = sample(alloc, number_of(words.next()))?;
     match words.next() {
@@ -73,7 +73,7 @@ fn change(bytes: &mut Vec<u8>, at: u32, byte: u8) {
 }
 
 /// The answers for the order whose two fresh transactions, at 41 and 57, are both the first one.
-pub fn write_twice(answer: &mut String, alloc: Global) -> Result<(), Fail> {
+pub(crate) fn write_twice(answer: &mut String, alloc: Global) -> Result<(), Fail> {
     let mut bytes = sample(alloc, 3)?;
     for at in 41..57u32 {
         let byte = bytes.get(at as usize).copied().unwrap_or(0);

@@ -100,7 +100,7 @@ fn large_blocks_are_walked_in_place(rt: HostRuntime) -> Result<(), Fail> {
     check_cases(rt.alloc(), LARGE)
 }
 
-pub fn write_large(answer: &mut String, alloc: Global, count: u8) -> Result<(), Fail> {
+pub(crate) fn write_large(answer: &mut String, alloc: Global, count: u8) -> Result<(), Fail> {
     let whole = walked(alloc, count)?;
     Ok(write!(answer, "{whole}")?)
 }

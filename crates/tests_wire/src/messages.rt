@@ -16,7 +16,7 @@ const BARE_VOTE: &str =
     "020502000000031111111111111111111111111111111111111111111111111111111111111111000000";
 
 /// Whether bytes are a message that is written as it was read.
-pub fn is_written_again(alloc: Global, bytes: &[u8]) -> Result<bool, Fail> {
+pub(crate) fn is_written_again(alloc: Global, bytes: &[u8]) -> Result<bool, Fail> {
     match read(bytes) {
         Ok(view) => is_written_as(alloc, &view.own(alloc)?, bytes),
         Err(_) => Ok(false),
@@ -47,7 +47,7 @@ fn messages_and_parts_are_written_as_they_are_read(rt: HostRuntime) -> Result<()
     check_cases(rt.alloc(), WRITTEN)
 }
 
-pub fn write_is_written(
+pub(crate) fn write_is_written(
     answer: &mut String,
     alloc: Global,
     asked: &str,

@@ -52,7 +52,7 @@ const GIVE: &str =
     2222000000000000";
 
 /// The message of a kind.
-pub fn sample(alloc: Global, kind: u32) -> Result<Vec<u8>, FromHexError> {
+pub(crate) fn sample(alloc: Global, kind: u32) -> Result<Vec<u8>, FromHexError> {
     let text = match kind {
         1 => NEW_VIEW,
         2 => ASK,
@@ -65,7 +65,7 @@ pub fn sample(alloc: Global, kind: u32) -> Result<Vec<u8>, FromHexError> {
     hex::decode(alloc, text)
 }
 
-pub fn number_of(word: Option<&str>) -> u32 {
+pub(crate) fn number_of(word: Option<&str>) -> u32 {
     match word {
         Some(word) => parse_u32(word.as_bytes()).unwrap_or(0),
         None => 0,
@@ -73,13 +73,13 @@ pub fn number_of(word: Option<&str>) -> u32 {
 }
 
 /// The lowest byte of a number.
-pub fn byte_of(word: Option<&str>) -> u8 {
+pub(crate) fn byte_of(word: Option<&str>) -> u8 {
     number_of(word).to_le_bytes()[0]
 }
 
 /// Fails at the first case with another answer than expected, and reports that answer. A case is a line with bars
 /// between its parts: the question, the sample and its change, and the expected answer.
-pub fn check_cases(alloc: Global, cases: &str) -> Result<(), Fail> {
+pub(crate) fn check_cases(alloc: Global, cases: &str) -> Result<(), Fail> {
     for case in cases.lines() {
         check_case(alloc, case)?;
     }

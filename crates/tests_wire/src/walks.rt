@@ -24,7 +24,7 @@ fn messages_show_their_parts(rt: HostRuntime) -> Result<(), Fail> {
     check_cases(rt.alloc(), VIEWS)
 }
 
-pub fn write_view(answer: &mut String, alloc: Global, kind: u32) -> Result<(), Fail> {
+pub(crate) fn write_view(answer: &mut String, alloc: Global, kind: u32) -> Result<(), Fail> {
     let bytes = sample(alloc, kind)?;
     write_message(answer, &bytes)
 }

@@ -20,11 +20,11 @@ use std::alloc::Global;
 use trace_form::{Keys, Trace, TraceFault, read_trace};
 
 /// The maximum length of a trace in bytes.
-pub const MAX_TRACE: usize = 67_108_864;
+pub(crate) const MAX_TRACE: usize = 67_108_864;
 
 /// The command `audit`: checks the record in a trace, by the trace's seed or by its public keys. The record is returned
 /// with the status, if its text was made.
-pub fn audit<K: Sink, M: CheckerMaker>(
+pub(crate) fn audit<K: Sink, M: CheckerMaker>(
     alloc: Global,
     input: &[u8],
     sink: &mut K,

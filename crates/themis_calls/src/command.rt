@@ -54,7 +54,7 @@ pub fn unheard(kind: ErrorKind) -> Status
 }
 
 /// The command that the arguments name. It allocates nothing.
-pub fn command_of(words: &[String]) -> Option<Command>
+pub(crate) fn command_of(words: &[String]) -> Option<Command>
     ensures some { IfSome result (λ command. Names words.now command) }
     ensures none { IfNone result (¬ AreWords words.now) }
 {
@@ -74,7 +74,7 @@ pub fn asks_to_run(words: &[String]) -> bool
 }
 
 /// The command of a word and two numbers.
-pub fn command_from(word: &str, numbers: Option<(&str, &str)>) -> Option<Command>
+pub(crate) fn command_from(word: &str, numbers: Option<(&str, &str)>) -> Option<Command>
     ensures some { IfSome result (λ command. IsCommand command × (words_from word.now numbers.entry ≡ words_of command)) }
     ensures none { IfNone result ((command : Command) → IsCommand command → words_from word.now numbers.entry ≢ words_of command) }
 {

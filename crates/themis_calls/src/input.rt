@@ -9,20 +9,20 @@ use crate::Status;
 use seq_io::Source;
 
 /// The maximum length of an order text or a plan in bytes.
-pub const MAX_INPUT: usize = 1_048_576;
+pub(crate) const MAX_INPUT: usize = 1_048_576;
 
 /// How many bytes one read or write moves at most.
-pub const PIECE: usize = 4096;
+pub(crate) const PIECE: usize = 4096;
 
 /// Why reading ended before the end of the input.
 #[derive(Clone, Copy)]
-pub enum ReadStop {
+pub(crate) enum ReadStop {
     Failed,
     NoMemory,
 }
 
 /// Reads the rest of the input into an empty `input`. It stops one byte after the limit.
-pub fn read_to_limit<S: Source>(
+fn read_to_limit<S: Source>(
     source: &mut S,
     input: &mut Vec<u8>,
     most: usize,
@@ -59,7 +59,11 @@ pub fn read_to_limit<S: Source>(
 }
 
 /// The whole input, or the status of a call that did not get all of it.
-pub fn read_whole<S: Source>(source: &mut S, input: &mut Vec<u8>, most: usize) -> Result<(), Status>
+pub(crate) fn read_whole<S: Source>(
+    source: &mut S,
+    input: &mut Vec<u8>,
+    most: usize,
+) -> Result<(), Status>
     requires empty { vec_len input.old ≡ 0 }
     requires most { most < 4294967296 }
     // What was taken of the source: the whole of it with Ok, and never more than one byte above the limit.

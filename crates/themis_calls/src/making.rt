@@ -11,7 +11,7 @@ use seq_io::Sink;
 use std::alloc::Global;
 
 /// The command `make`: a plan for `replay`.
-pub fn make<K: Sink>(alloc: Global, seed: u64, count: u32, sink: &mut K) -> Status
+pub(crate) fn make<K: Sink>(alloc: Global, seed: u64, count: u32, sink: &mut K) -> Status
     ensures answers { AnswersMade seed count (K.written sink.old) (K.written sink.new) result }
     ensures ends { ends_make result ≡ true }
     ensures silent { has_written result ≡ false → sink.new ≡ sink.old }

@@ -25,7 +25,7 @@ use std::alloc::Global;
 
 /// How a proposal is printed.
 #[derive(Clone, Copy)]
-pub enum Form {
+pub(crate) enum Form {
     /// With its batches.
     Batches,
     /// With its batches, each followed by a line.
@@ -33,7 +33,7 @@ pub enum Form {
 }
 
 /// The commands `order` and `line`: the proposal of the order text and its batches, in the given form.
-pub fn order<K: Sink>(alloc: Global, form: Form, input: &[u8], sink: &mut K) -> Status
+pub(crate) fn order<K: Sink>(alloc: Global, form: Form, input: &[u8], sink: &mut K) -> Status
     // What is written of each input.
     ensures answers { AnswersOrder form input.now (K.written sink.old) (K.written sink.new) result }
     // The status is one of the command's own, and one without reading only where memory ran out.
@@ -112,7 +112,7 @@ fn ended(pair: Option<(Tx, Tx)>) -> Status
 }
 
 /// The order of every order text is fair: the laws of `fair_laws` over its setting and lists.
-pub fn orders_are_fair()
+pub(crate) fn orders_are_fair()
     ensures { (bytes : List ℕ) (orders : OrderText) → read_orders bytes ≡ Ok orders → IsFair orders }
 {
     order_texts_are_read_as_spelled();
@@ -124,7 +124,7 @@ pub fn orders_are_fair()
 
 /// Each line contains exactly the transactions of its batch, and each has a majority over the next, if the proposal is
 /// complete: the laws of `line_up` over the setting and lists of every order text.
-pub fn lines_have_majorities()
+pub(crate) fn lines_have_majorities()
     ensures { (bytes : List ℕ) (orders : OrderText) → read_orders bytes ≡ Ok orders → AreLines orders }
 {
     order_texts_are_read_as_spelled();
@@ -135,6 +135,6 @@ pub fn lines_have_majorities()
 }
 
 /// An input has one expected status.
-pub fn one_status_is_due()
+fn one_status_is_due()
     ensures { (bytes : List ℕ) (one other : Status) → IsDue bytes one → IsDue bytes other → one ≡ other }
 {}

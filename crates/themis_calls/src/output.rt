@@ -6,7 +6,7 @@ use crate::input::PIECE;
 use seq_io::{Failed, Sink};
 
 /// Writes a text in pieces. If the sink fails, it has a prefix of the text.
-pub fn write_text<K: Sink>(sink: &mut K, text: &[u8]) -> Result<(), Failed>
+pub(crate) fn write_text<K: Sink>(sink: &mut K, text: &[u8]) -> Result<(), Failed>
     ensures whole { OnOk result (Took text.now (K.written sink.old) (K.written sink.new)) }
     ensures prefix { OnErr result (TookSome text.now (K.written sink.old) (K.written sink.new)) }
     ensures quiet { OnOk result (K.faults sink.new ≡ K.faults sink.old) }

@@ -11,7 +11,7 @@ use std::alloc::{AllocError, Global};
 
 /// Parses the arguments as one simple command with the positional arguments COMMAND, SEED and COUNT, the last two
 /// optional. It accepts every list of arguments that names a command.
-pub fn taken_apart(alloc: Global, words: &[String]) -> Result<Command, Error>
+pub(crate) fn taken_apart(alloc: Global, words: &[String]) -> Result<Command, Error>
     requires { AreWords words.now }
     ensures named { IfOk result (Names words.now) }
     ensures refused { IfErr result (λ error. kind_of error ≡ OutOfMemory) }

@@ -37,7 +37,7 @@ use trace_laws::{exact_runs_fit_the_form, lawful_runs_are_spelled};
 
 /// The commands `replay` and `trace`: plays the plan and writes the run in the given form. The run is returned with the
 /// status, if its text was made.
-pub fn replay<K: Sink, M: CheckerMaker>(
+pub(crate) fn replay<K: Sink, M: CheckerMaker>(
     alloc: Global,
     form: RunForm,
     input: &[u8],

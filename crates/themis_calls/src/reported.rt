@@ -17,7 +17,7 @@ use trace_form::{Keys, write_trace};
 
 /// The form in which a run is written.
 #[derive(Clone, Copy)]
-pub enum RunForm {
+pub(crate) enum RunForm {
     /// What each honest replica has finalised.
     Report,
     /// The record of the run, as a trace.
@@ -26,15 +26,15 @@ pub enum RunForm {
 
 /// A run, its verdict, and its text.
 #[derive(Drop)]
-pub struct Played {
-    pub run: RunRecord,
-    pub verdict: Verdict,
-    pub text: Bytes,
+pub(crate) struct Played {
+    pub(crate) run: RunRecord,
+    pub(crate) verdict: Verdict,
+    pub(crate) text: Bytes,
 }
 
 /// The text of a run, in the given form.
 #[tactic(auto, unfolding(crate::specs::Replayed::text_of_run))]
-pub fn text_of_run(
+pub(crate) fn text_of_run(
     alloc: Global,
     form: RunForm,
     plan: &Plan,
@@ -53,7 +53,7 @@ pub fn text_of_run(
 }
 
 /// Writes the text of a run.
-pub fn report<K: Sink>(sink: &mut K, played: &Played) -> Status
+pub(crate) fn report<K: Sink>(sink: &mut K, played: &Played) -> Status
     // What is written, and the status of the verdict.
     ensures reported { Reported played.now.run played.now.verdict played.now.text (K.written sink.old) (K.written sink.new) result }
     // The status is one that has a run, a text and an input that was read.

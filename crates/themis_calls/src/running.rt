@@ -31,7 +31,7 @@ use trace_form::spellings_are_read;
 use trace_laws::{lawful_runs_are_spelled, runs_in_rounds_fit_the_form};
 
 /// A run of the plan in rounds of threads, and its report. The run is returned with the status, if its text was made.
-pub fn run<R: Threads + Wait + Sync, K: Sink, M: CheckerMaker>(
+pub(crate) fn run<R: Threads + Wait + Sync, K: Sink, M: CheckerMaker>(
     rt: &R,
     alloc: Global,
     input: &[u8],

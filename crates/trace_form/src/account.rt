@@ -29,7 +29,7 @@ pub struct Account {
 }
 
 /// One account for each replica.
-pub type Accounts = Items<Account>;
+pub(crate) type Accounts = Items<Account>;
 
 /// The account of a faulty replica, of which nothing is recorded. It allocates nothing.
 fn bare(alloc: Global) -> Account
@@ -45,7 +45,7 @@ fn bare(alloc: Global) -> Account
 }
 
 #[tactic(auto, using(crate::proofs::Steps::each_goes_on, crate::proofs::Steps::each_blames, crate::proofs::Steps::each_ends))]
-pub fn read_accounts<'a>(
+pub(crate) fn read_accounts<'a>(
     alloc: Global,
     n: u32,
     faulty: &ReplicaSet,

@@ -32,7 +32,7 @@ impl Drop for Contents {
 }
 
 /// Reads all of the bytes.
-pub fn read_whole(alloc: Global, bytes: &[u8]) -> Result<Contents, Stop>
+pub(crate) fn read_whole(alloc: Global, bytes: &[u8]) -> Result<Contents, Stop>
     ensures { Gives (λ x. x) result (whole (contents_at bytes.now)) }
 {
     let (contents, rest) = read_contents(alloc, bytes)?;
@@ -63,7 +63,7 @@ fn read_contents(alloc: Global, bytes: &[u8]) -> Result<(Contents, &[u8]), Stop>
 
 impl Contents {
     /// The trace with these contents.
-    pub fn into_trace(self, alloc: Global) -> Result<Trace, NoMemory>
+    pub(crate) fn into_trace(self, alloc: Global) -> Result<Trace, NoMemory>
         ensures { IfOk result (λ trace. trace ≡ trace_of self) }
     {
         let Contents {

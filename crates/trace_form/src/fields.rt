@@ -18,7 +18,7 @@ use std::collections::HashSet;
 /// The maximum number of transactions in a list.
 const MAX_TXS: u32 = 65_536;
 
-pub fn read_byte(bytes: &[u8]) -> Result<(u32, &[u8]), Stop>
+pub(crate) fn read_byte(bytes: &[u8]) -> Result<(u32, &[u8]), Stop>
     ensures gives { Gives (λ x. (x.0, x.1.now)) result (byte_at bytes.now) }
     ensures byte { IfOk result (λ x. x.0 < 256) }
 {
@@ -28,7 +28,7 @@ pub fn read_byte(bytes: &[u8]) -> Result<(u32, &[u8]), Stop>
     }
 }
 
-pub fn read_u16(bytes: &[u8]) -> Result<(u32, &[u8]), Stop>
+pub(crate) fn read_u16(bytes: &[u8]) -> Result<(u32, &[u8]), Stop>
     ensures { Gives (λ x. (x.0, x.1.now)) result (number_at w16 bytes.now) }
 {
     if bytes.len() < 2 {
@@ -39,7 +39,7 @@ pub fn read_u16(bytes: &[u8]) -> Result<(u32, &[u8]), Stop>
     Ok((u32::from(number), rest))
 }
 
-pub fn read_u32(bytes: &[u8]) -> Result<(u32, &[u8]), Stop>
+pub(crate) fn read_u32(bytes: &[u8]) -> Result<(u32, &[u8]), Stop>
     ensures { Gives (λ x. (x.0, x.1.now)) result (number_at w32 bytes.now) }
 {
     if bytes.len() < 4 {
@@ -50,7 +50,7 @@ pub fn read_u32(bytes: &[u8]) -> Result<(u32, &[u8]), Stop>
     Ok((number, rest))
 }
 
-pub fn read_u64(bytes: &[u8]) -> Result<(u64, &[u8]), Stop>
+pub(crate) fn read_u64(bytes: &[u8]) -> Result<(u64, &[u8]), Stop>
     ensures { Gives (λ x. (x.0, x.1.now)) result (number_at w64 bytes.now) }
 {
     if bytes.len() < 8 {
@@ -63,7 +63,7 @@ pub fn read_u64(bytes: &[u8]) -> Result<(u64, &[u8]), Stop>
     Ok((number, rest))
 }
 
-pub fn read_piece(size: u32, bytes: &[u8]) -> Result<(&[u8], &[u8]), Stop>
+pub(crate) fn read_piece(size: u32, bytes: &[u8]) -> Result<(&[u8], &[u8]), Stop>
     ensures { Gives (λ x. (x.0.now, x.1.now)) result (piece_at size bytes.now) }
 {
     let size = size as usize;
@@ -104,7 +104,11 @@ fn read_tx(bytes: &[u8]) -> Result<(Tx, &[u8]), Stop>
 
 /// Transactions, preceded by their count. If they have to be distinct, a repeated one is a fault.
 #[tactic(auto, unfolding(crate::specs::Lists::list_at))]
-pub fn read_list(alloc: Global, distinct: bool, bytes: &[u8]) -> Result<(TxList, &[u8]), Stop>
+pub(crate) fn read_list(
+    alloc: Global,
+    distinct: bool,
+    bytes: &[u8],
+) -> Result<(TxList, &[u8]), Stop>
     ensures { Gives (λ x. (x.0, x.1.now)) result (list_at distinct bytes.now) }
 {
     let (count, rest) = read_count(MAX_TXS, bytes)?;
@@ -167,7 +171,7 @@ fn insert(seen: &mut HashSet<Tx>, tx: Tx) -> Result<bool, NoMemory>
 
 /// `count` such lists.
 #[tactic(auto, using(crate::proofs::Steps::each_goes_on, crate::proofs::Steps::each_blames, crate::proofs::Steps::each_ends))]
-pub fn read_lists(
+pub(crate) fn read_lists(
     alloc: Global,
     distinct: bool,
     count: u32,
@@ -187,7 +191,7 @@ pub fn read_lists(
 
 /// Bytes, preceded by their count.
 #[tactic(auto, unfolding(crate::specs::Lists::bytes_at))]
-pub fn read_bytes(alloc: Global, bytes: &[u8]) -> Result<(Bytes, &[u8]), Stop>
+pub(crate) fn read_bytes(alloc: Global, bytes: &[u8]) -> Result<(Bytes, &[u8]), Stop>
     ensures { Gives (λ x. (x.0, x.1.now)) result (bytes_at bytes.now) }
 {
     let (size, rest) = read_u32(bytes)?;

@@ -32,7 +32,7 @@ impl Drop for Keys {
 
 /// The form of a trace.
 #[derive(Clone, Copy)]
-pub enum Form {
+pub(crate) enum Form {
     /// With the seed of all keys.
     Seeded,
     /// With public keys.
@@ -40,7 +40,7 @@ pub enum Form {
 }
 
 /// The form of a trace with these keys.
-pub fn form_of(keys: &Keys) -> Form
+pub(crate) fn form_of(keys: &Keys) -> Form
     ensures { result ≡ form_of keys.now }
 {
     match keys {
@@ -50,7 +50,7 @@ pub fn form_of(keys: &Keys) -> Form
 }
 
 /// The first bytes of a trace of this form.
-pub fn magic(form: Form) -> &'static [u8]
+pub(crate) fn magic(form: Form) -> &'static [u8]
     ensures { result.now ≡ magic form }
 {
     match form {
@@ -61,7 +61,7 @@ pub fn magic(form: Form) -> &'static [u8]
 
 /// The form that the first bytes of a trace name.
 #[tactic(auto, unfolding(crate::specs::Keys::form_at))]
-pub fn read_form(bytes: &[u8]) -> Result<(Form, &[u8]), Stop>
+pub(crate) fn read_form(bytes: &[u8]) -> Result<(Form, &[u8]), Stop>
     ensures { Gives (λ x. (x.0, x.1.now)) result (form_at bytes.now) }
 {
     let (first, rest) = read_piece(8, bytes)?;
@@ -85,7 +85,7 @@ fn form_named(first: &[u8]) -> Option<Form>
 
 /// One public key for each of n replicas.
 #[tactic(auto, unfolding(crate::specs::Keys::keys_at))]
-pub fn read_keys(alloc: Global, n: u32, bytes: &[u8]) -> Result<(PublicKeys, &[u8]), Stop>
+pub(crate) fn read_keys(alloc: Global, n: u32, bytes: &[u8]) -> Result<(PublicKeys, &[u8]), Stop>
     ensures { Gives (λ x. (x.0, x.1.now)) result (keys_at n bytes.now) }
 {
     let (keys, rest) = read_each_key(alloc, n, bytes)?;

@@ -42,7 +42,7 @@ pub struct Opening {
 }
 
 #[tactic(auto, unfolding(crate::specs::Opening::opening_at))]
-pub fn read_opening(alloc: Global, bytes: &[u8]) -> Result<(Opening, &[u8]), Stop>
+pub(crate) fn read_opening(alloc: Global, bytes: &[u8]) -> Result<(Opening, &[u8]), Stop>
     ensures gives { Gives (λ x. (x.0, x.1.now)) result (opening_at bytes.now) }
     ensures valid { IfOk result (λ x. IsValid x.0.setting) }
 {

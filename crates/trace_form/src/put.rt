@@ -11,7 +11,7 @@ use seq_base::{Bytes, NoMemory, Tx};
 use wire_view::WireFault;
 
 /// One byte. A number of 256 or more wraps.
-pub fn put_u8(out: &mut Vec<u8>, number: u32) -> Result<(), NoMemory>
+pub(crate) fn put_u8(out: &mut Vec<u8>, number: u32) -> Result<(), NoMemory>
     ensures { OnOk result (out.new.items ≡ out.old.items ++ to_be_bytes w8 number) }
 {
     out.push((number % 256) as u8)?;
@@ -19,7 +19,7 @@ pub fn put_u8(out: &mut Vec<u8>, number: u32) -> Result<(), NoMemory>
 }
 
 /// Two bytes. A number of 65,536 or more wraps.
-pub fn put_u16(out: &mut Vec<u8>, number: u32) -> Result<(), NoMemory>
+pub(crate) fn put_u16(out: &mut Vec<u8>, number: u32) -> Result<(), NoMemory>
     ensures { OnOk result (out.new.items ≡ out.old.items ++ to_be_bytes w16 number) }
 {
     out.push((number / 256 % 256) as u8)?;
@@ -27,14 +27,14 @@ pub fn put_u16(out: &mut Vec<u8>, number: u32) -> Result<(), NoMemory>
     Ok(())
 }
 
-pub fn put_u32(out: &mut Vec<u8>, number: u32) -> Result<(), NoMemory>
+pub(crate) fn put_u32(out: &mut Vec<u8>, number: u32) -> Result<(), NoMemory>
     ensures { OnOk result (out.new.items ≡ out.old.items ++ to_be_bytes w32 number) }
 {
     out.extend_from_slice(&number.to_be_bytes())?;
     Ok(())
 }
 
-pub fn put_u64(out: &mut Vec<u8>, number: u64) -> Result<(), NoMemory>
+pub(crate) fn put_u64(out: &mut Vec<u8>, number: u64) -> Result<(), NoMemory>
     ensures { OnOk result (out.new.items ≡ out.old.items ++ to_be_bytes w64 number) }
 {
     out.extend_from_slice(&number.to_be_bytes())?;
@@ -42,7 +42,7 @@ pub fn put_u64(out: &mut Vec<u8>, number: u64) -> Result<(), NoMemory>
 }
 
 /// A count in four bytes. Only its low 32 bits are written.
-pub fn put_count(out: &mut Vec<u8>, count: usize) -> Result<(), NoMemory>
+pub(crate) fn put_count(out: &mut Vec<u8>, count: usize) -> Result<(), NoMemory>
     ensures { OnOk result (out.new.items ≡ out.old.items ++ to_be_bytes w32 count) }
 {
     put_u32(out, (count % 4_294_967_296) as u32)
@@ -56,7 +56,7 @@ fn put_tx(out: &mut Vec<u8>, tx: &Tx) -> Result<(), NoMemory>
     put_u64(out, tx.payload)
 }
 
-pub fn put_list(out: &mut Vec<u8>, txs: &[Tx]) -> Result<(), NoMemory>
+pub(crate) fn put_list(out: &mut Vec<u8>, txs: &[Tx]) -> Result<(), NoMemory>
     ensures { OnOk result (out.new.items ≡ out.old.items ++ list_spelling txs.now) }
 {
     put_count(out, txs.len())?;
@@ -66,7 +66,7 @@ pub fn put_list(out: &mut Vec<u8>, txs: &[Tx]) -> Result<(), NoMemory>
     Ok(())
 }
 
-pub fn put_bytes(out: &mut Vec<u8>, bytes: &[u8]) -> Result<(), NoMemory>
+fn put_bytes(out: &mut Vec<u8>, bytes: &[u8]) -> Result<(), NoMemory>
     ensures { OnOk result (out.new.items ≡ out.old.items ++ bytes_spelling bytes.now) }
 {
     put_count(out, bytes.len())?;
@@ -94,7 +94,7 @@ fn put_event(out: &mut Vec<u8>, event: &Event) -> Result<(), NoMemory>
     }
 }
 
-pub fn put_entry(out: &mut Vec<u8>, entry: &Entry) -> Result<(), NoMemory>
+pub(crate) fn put_entry(out: &mut Vec<u8>, entry: &Entry) -> Result<(), NoMemory>
     ensures { OnOk result (out.new.items ≡ out.old.items ++ entry_spelling entry.now) }
 {
     put_event(out, &entry.event)?;
@@ -113,7 +113,7 @@ fn put_statements(out: &mut Vec<u8>, statements: &[Bytes]) -> Result<(), NoMemor
     Ok(())
 }
 
-pub fn height_code(height: Height) -> u32
+pub(crate) fn height_code(height: Height) -> u32
     ensures { result ≡ height_code height }
 {
     match height {

@@ -12,7 +12,7 @@ use seq_base::{NoMemory, Tx, TxList};
 use std::alloc::Global;
 
 /// Each transaction as many times as there are lists that hold it, in ascending order.
-pub fn entries_of(alloc: Global, lists: &[TxList]) -> Result<Vec<Tx>, NoMemory>
+pub(crate) fn entries_of(alloc: Global, lists: &[TxList]) -> Result<Vec<Tx>, NoMemory>
     requires { AreFresh lists.now }
     ensures counts { IfOk result (λ entries. (t : Tx) → times t entries.items ≡ listed lists.now t) }
     ensures sorted { IfOk result (λ entries. IsSorted tx_cmp entries.items) }
@@ -37,7 +37,7 @@ fn joined(alloc: Global, lists: &[TxList]) -> Result<Vec<Tx>, NoMemory>
 }
 
 /// The transactions of a list, each once, in ascending order.
-pub fn once(alloc: Global, list: &[Tx]) -> Result<Vec<Tx>, NoMemory>
+pub(crate) fn once(alloc: Global, list: &[Tx]) -> Result<Vec<Tx>, NoMemory>
     ensures ascending { IfOk result (λ held. IsStrictlySortedBy tx_cmp held.items) }
     ensures same { IfOk result (λ held. (t : Tx) → holds t held.items ≡ holds t list.now) }
     ensures few { IfOk result (λ held. length held.items ≤ length list.now) }
@@ -49,7 +49,7 @@ pub fn once(alloc: Global, list: &[Tx]) -> Result<Vec<Tx>, NoMemory>
 }
 
 /// How many times a transaction occurs in a sorted list: the number of entries up to it, minus the number before it.
-pub fn times(tx: &Tx, list: &[Tx]) -> usize
+pub(crate) fn times(tx: &Tx, list: &[Tx]) -> usize
     requires { IsSorted tx_cmp list.now }
     ensures value { result ≡ times tx.now list.now }
     ensures few { result ≤ length list.now }

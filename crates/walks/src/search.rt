@@ -11,7 +11,7 @@ use std::alloc::Global;
 
 /// Follows edges from one vertex until no vertex is open. Each vertex that is reached ends as done. The search for
 /// the next open vertex starts at the last one.
-pub fn search(alloc: Global, graph: &Proposal, from: u32) -> Result<Vec<Mark>, NoMemory>
+pub(crate) fn search(alloc: Global, graph: &Proposal, from: u32) -> Result<Vec<Mark>, NoMemory>
     requires { from < length graph.now.vertices }
     ensures each { IfOk result (λ marks. length marks.items ≡ length graph.now.vertices) }
     ensures done { IfOk result (λ marks. (v : ℕ) → (slice_index_or marks.items v Unseen ≡ Done) ↔ Walks (HasEdge graph.now) from v) }

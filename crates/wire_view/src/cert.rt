@@ -85,7 +85,7 @@ impl<'a> CertView<'a> {
 }
 
 #[tactic(auto, unfolding(crate::specs::Reading::cert_at))]
-pub fn read_cert(bytes: &[u8]) -> Result<(CertView<'_>, &[u8]), WireFault>
+pub(crate) fn read_cert(bytes: &[u8]) -> Result<(CertView<'_>, &[u8]), WireFault>
     ensures { Gives (λ x. (x.0, x.1.now)) result (cert_at bytes.now) }
 {
     let (view, rest) = read_u32(bytes)?;

@@ -9,7 +9,7 @@ use seq_base::Digest;
 /// The maximum length of a seal, in bytes.
 const MAX_SEAL_BYTES: u32 = 4916;
 
-pub fn read_byte(bytes: &[u8]) -> Result<(u32, &[u8]), WireFault>
+pub(crate) fn read_byte(bytes: &[u8]) -> Result<(u32, &[u8]), WireFault>
     ensures gives { Gives (λ x. (x.0, x.1.now)) result (byte_at bytes.now) }
     ensures byte { IfOk result (λ x. x.0 < 256) }
 {
@@ -20,7 +20,7 @@ pub fn read_byte(bytes: &[u8]) -> Result<(u32, &[u8]), WireFault>
 }
 
 /// A byte that says what follows: the version, or a kind.
-pub fn read_tag(bytes: &[u8]) -> Result<(u8, &[u8]), WireFault>
+pub(crate) fn read_tag(bytes: &[u8]) -> Result<(u8, &[u8]), WireFault>
     ensures { Gives (λ x. (x.0, x.1.now)) result (byte_at bytes.now) }
 {
     match bytes {
@@ -40,7 +40,7 @@ fn read_u16(bytes: &[u8]) -> Result<(u32, &[u8]), WireFault>
     Ok((u32::from(number), rest))
 }
 
-pub fn read_u32(bytes: &[u8]) -> Result<(u32, &[u8]), WireFault>
+pub(crate) fn read_u32(bytes: &[u8]) -> Result<(u32, &[u8]), WireFault>
     ensures { Gives (λ x. (x.0, x.1.now)) result (number_at w32 bytes.now) }
 {
     if bytes.len() < 4 {
@@ -51,7 +51,7 @@ pub fn read_u32(bytes: &[u8]) -> Result<(u32, &[u8]), WireFault>
     Ok((number, rest))
 }
 
-pub fn read_piece(size: u32, bytes: &[u8]) -> Result<(&[u8], &[u8]), WireFault>
+pub(crate) fn read_piece(size: u32, bytes: &[u8]) -> Result<(&[u8], &[u8]), WireFault>
     ensures gives { Gives (λ x. (x.0.now, x.1.now)) result (piece_at size bytes.now) }
     ensures size { IfOk result (λ x. length x.0.now ≡ size) }
 {
@@ -64,7 +64,7 @@ pub fn read_piece(size: u32, bytes: &[u8]) -> Result<(&[u8], &[u8]), WireFault>
 
 /// A count in one byte.
 #[tactic(auto, unfolding(crate::specs::Reading::short_count_at))]
-pub fn read_short_count(most: u32, bytes: &[u8]) -> Result<(u32, &[u8]), WireFault>
+pub(crate) fn read_short_count(most: u32, bytes: &[u8]) -> Result<(u32, &[u8]), WireFault>
     ensures gives { Gives (λ x. (x.0, x.1.now)) result (short_count_at most bytes.now) }
     ensures limit { IfOk result (λ x. x.0 ≤ most) }
 {
@@ -77,7 +77,7 @@ pub fn read_short_count(most: u32, bytes: &[u8]) -> Result<(u32, &[u8]), WireFau
 
 /// A count in two bytes.
 #[tactic(auto, unfolding(crate::specs::Reading::long_count_at))]
-pub fn read_long_count(most: u32, bytes: &[u8]) -> Result<(u32, &[u8]), WireFault>
+pub(crate) fn read_long_count(most: u32, bytes: &[u8]) -> Result<(u32, &[u8]), WireFault>
     ensures gives { Gives (λ x. (x.0, x.1.now)) result (long_count_at most bytes.now) }
     ensures limit { IfOk result (λ x. x.0 ≤ most) }
 {
@@ -89,7 +89,7 @@ pub fn read_long_count(most: u32, bytes: &[u8]) -> Result<(u32, &[u8]), WireFaul
 }
 
 #[tactic(auto, unfolding(crate::specs::Reading::digest_at))]
-pub fn read_digest(bytes: &[u8]) -> Result<(Digest, &[u8]), WireFault>
+pub(crate) fn read_digest(bytes: &[u8]) -> Result<(Digest, &[u8]), WireFault>
     ensures { Gives (λ x. (x.0, x.1.now)) result (digest_at bytes.now) }
 {
     let (prefix, rest) = read_piece(32, bytes)?;
@@ -99,7 +99,7 @@ pub fn read_digest(bytes: &[u8]) -> Result<(Digest, &[u8]), WireFault>
 }
 
 #[tactic(auto, unfolding(crate::specs::Reading::seal_at))]
-pub fn read_seal(bytes: &[u8]) -> Result<(&[u8], &[u8]), WireFault>
+pub(crate) fn read_seal(bytes: &[u8]) -> Result<(&[u8], &[u8]), WireFault>
     ensures { Gives (λ x. (x.0.now, x.1.now)) result (seal_at bytes.now) }
 {
     let (size, rest) = read_long_count(MAX_SEAL_BYTES, bytes)?;
@@ -108,7 +108,7 @@ pub fn read_seal(bytes: &[u8]) -> Result<(&[u8], &[u8]), WireFault>
 
 /// The number of a replica. A number below `least` is a fault.
 #[tactic(auto, unfolding(crate::specs::Reading::replica_at))]
-pub fn read_replica(least: u32, bytes: &[u8]) -> Result<(u32, &[u8]), WireFault>
+pub(crate) fn read_replica(least: u32, bytes: &[u8]) -> Result<(u32, &[u8]), WireFault>
     ensures gives { Gives (λ x. (x.0, x.1.now)) result (replica_at least bytes.now) }
     ensures byte { IfOk result (λ x. x.0 < 256) }
 {
@@ -120,7 +120,7 @@ pub fn read_replica(least: u32, bytes: &[u8]) -> Result<(u32, &[u8]), WireFault>
 }
 
 /// The bytes before the rest.
-pub fn prefix<'a>(bytes: &'a [u8], rest: &[u8]) -> &'a [u8]
+pub(crate) fn prefix<'a>(bytes: &'a [u8], rest: &[u8]) -> &'a [u8]
     requires { length rest.now ≤ length bytes.now }
     ensures { result.now ≡ prefix_of bytes.now rest.now }
 {

@@ -165,7 +165,11 @@ pub fn read_tx(bytes: &[u8]) -> Tx
 /// A list of at most `most` transactions. If `checked`, the list was read before, and is not searched for repeats
 /// again.
 #[tactic(auto, unfolding(crate::specs::Reading::txs_at))]
-pub fn read_txs(most: u32, checked: bool, bytes: &[u8]) -> Result<(TxsView<'_>, &[u8]), WireFault>
+pub(crate) fn read_txs(
+    most: u32,
+    checked: bool,
+    bytes: &[u8],
+) -> Result<(TxsView<'_>, &[u8]), WireFault>
     requires limit { most ≤ 256 }
     requires before { IsTrue checked → IsOk (txs_at most bytes.now) }
     ensures gives { Gives (λ x. (x.0, x.1.now)) result (txs_at most bytes.now) }

@@ -17,7 +17,7 @@ fn put_txs(out: &mut Vec<u8>, txs: &TxList) -> Result<(), NoMemory>
     Ok(())
 }
 
-pub fn put_order(out: &mut Vec<u8>, order: &LocalOrder) -> Result<(), NoMemory>
+pub(crate) fn put_order(out: &mut Vec<u8>, order: &LocalOrder) -> Result<(), NoMemory>
     ensures { OnOk result (out.new.items ≡ out.old.items ++ order_spelling order.now) }
 {
     out.push(ORDER)?;
@@ -28,7 +28,7 @@ pub fn put_order(out: &mut Vec<u8>, order: &LocalOrder) -> Result<(), NoMemory>
     put_txs(out, &order.late)
 }
 
-pub fn put_sealed_order(out: &mut Vec<u8>, sealed: &SealedOrder) -> Result<(), NoMemory>
+pub(crate) fn put_sealed_order(out: &mut Vec<u8>, sealed: &SealedOrder) -> Result<(), NoMemory>
     ensures { OnOk result (out.new.items ≡ out.old.items ++ sealed_order_spelling sealed.now) }
 {
     put_order(out, &sealed.order)?;
@@ -42,7 +42,7 @@ fn put_cert_vote(out: &mut Vec<u8>, vote: &CertVote) -> Result<(), NoMemory>
     put_seal(out, &vote.seal)
 }
 
-pub fn put_cert(out: &mut Vec<u8>, cert: &Cert) -> Result<(), NoMemory>
+pub(crate) fn put_cert(out: &mut Vec<u8>, cert: &Cert) -> Result<(), NoMemory>
     ensures { OnOk result (out.new.items ≡ out.old.items ++ cert_spelling cert.now) }
 {
     put_u32(out, cert.view)?;
@@ -55,7 +55,7 @@ pub fn put_cert(out: &mut Vec<u8>, cert: &Cert) -> Result<(), NoMemory>
     Ok(())
 }
 
-pub fn put_block(out: &mut Vec<u8>, block: &Block) -> Result<(), NoMemory>
+pub(crate) fn put_block(out: &mut Vec<u8>, block: &Block) -> Result<(), NoMemory>
     ensures { OnOk result (out.new.items ≡ out.old.items ++ block_spelling block.now) }
 {
     put_u32(out, block.view)?;
@@ -69,7 +69,7 @@ pub fn put_block(out: &mut Vec<u8>, block: &Block) -> Result<(), NoMemory>
 }
 
 /// The order that a vote carries, after its count of 0 or 1.
-pub fn put_carried(out: &mut Vec<u8>, order: &Option<SealedOrder>) -> Result<(), NoMemory>
+pub(crate) fn put_carried(out: &mut Vec<u8>, order: &Option<SealedOrder>) -> Result<(), NoMemory>
     ensures { OnOk result (out.new.items ≡ out.old.items ++ carried_spelling order.now) }
 {
     match order {

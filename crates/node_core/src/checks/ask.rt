@@ -8,7 +8,12 @@ use seal_kit::Checker;
 use wire_view::CallView;
 
 /// The first test of an Ask that holds.
-pub fn ask_reason<C: Checker>(state: &State, checker: &C, from: u32, call: &CallView<'_>) -> Reason
+pub(crate) fn ask_reason<C: Checker>(
+    state: &State,
+    checker: &C,
+    from: u32,
+    call: &CallView<'_>,
+) -> Reason
     ensures value { result ≡ ask_reason (C.meaning checker.now) state.now from call.now }
     ensures earlier { result ≡ Reason.Done → call.now.cert.view < call.now.view }
     ensures view { result ≡ Reason.Done → call.now.view ≤ state.now.views }

@@ -10,7 +10,7 @@ use seq_base::{Block, Digest, NoMemory};
 use wire_view::BlockView;
 
 /// The first test of a Give that holds, of those before the block itself is tested.
-pub fn give_reason<C: Checker>(state: &State, checker: &C, block: &BlockView<'_>) -> Reason
+pub(crate) fn give_reason<C: Checker>(state: &State, checker: &C, block: &BlockView<'_>) -> Reason
     ensures value { result ≡ give_reason (C.meaning checker.now) state.now block.now }
     ensures earlier { result ≡ Reason.Done → block.now.cert.view < block.now.view }
     ensures view { result ≡ Reason.Done → block.now.view ≤ state.now.views }
@@ -31,7 +31,7 @@ pub fn give_reason<C: Checker>(state: &State, checker: &C, block: &BlockView<'_>
 }
 
 /// The first that holds of the tests after those of [`give_reason`]: they test the owned block.
-pub fn given_block_reason<C: Checker>(
+pub(crate) fn given_block_reason<C: Checker>(
     state: &State,
     checker: &C,
     view: &BlockView<'_>,

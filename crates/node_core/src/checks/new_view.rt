@@ -8,7 +8,7 @@ use seal_kit::Checker;
 use wire_view::CallView;
 
 /// The first test of a NewView that holds.
-pub fn new_view_reason<C: Checker>(
+pub(crate) fn new_view_reason<C: Checker>(
     state: &State,
     checker: &C,
     from: u32,

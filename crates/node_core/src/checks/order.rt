@@ -8,7 +8,7 @@ use seq_base::{LocalOrder, NoMemory};
 use wire_view::OrderView;
 
 /// The first test of an Order that holds, of those that read it in place.
-pub fn order_reason<C: Checker>(
+pub(crate) fn order_reason<C: Checker>(
     state: &State,
     checker: &C,
     from: u32,
@@ -40,7 +40,11 @@ pub fn order_reason<C: Checker>(
 }
 
 /// The first that holds of the tests after those of [`order_reason`]: they test the lists of the owned order.
-pub fn owned_order_reason(state: &State, from: u32, order: &LocalOrder) -> Result<Reason, NoMemory>
+pub(crate) fn owned_order_reason(
+    state: &State,
+    from: u32,
+    order: &LocalOrder,
+) -> Result<Reason, NoMemory>
     ensures { IfOk result (λ reason. reason ≡ kept_order_reason state.now from order.now) }
 {
     if !state.order_fits(state.ask_block(), order)? {

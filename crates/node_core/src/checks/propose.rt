@@ -10,7 +10,7 @@ use seq_base::{Block, Digest, NoMemory};
 use wire_view::{BlockView, ProposeView};
 
 /// The first test of a Propose that holds, of those before the block itself is tested.
-pub fn propose_reason<C: Checker>(
+pub(crate) fn propose_reason<C: Checker>(
     state: &State,
     checker: &C,
     from: u32,
@@ -49,7 +49,7 @@ pub fn propose_reason<C: Checker>(
 }
 
 /// The first that holds of the tests after those of [`propose_reason`]: they test the owned block.
-pub fn proposed_block_reason<C: Checker>(
+pub(crate) fn proposed_block_reason<C: Checker>(
     state: &State,
     checker: &C,
     view: &BlockView<'_>,

@@ -10,7 +10,7 @@ use wire_view::{BlockView, CertView, OrderView};
 
 /// Whether a certificate is bad for a view: it is not valid, or its view is not earlier, or its block is stored with a
 /// view other than the certificate's.
-pub fn is_bad<C: Checker>(state: &State, checker: &C, cert: &CertView<'_>, view: u32) -> bool
+pub(crate) fn is_bad<C: Checker>(state: &State, checker: &C, cert: &CertView<'_>, view: u32) -> bool
     ensures value { result ≡ is_bad (C.meaning checker.now) state.now cert.now view }
     ensures earlier { result ≡ false → cert.now.view < view }
 {
@@ -20,7 +20,7 @@ pub fn is_bad<C: Checker>(state: &State, checker: &C, cert: &CertView<'_>, view:
 }
 
 /// Whether a block is stored with a view other than this one.
-pub fn is_stored_elsewhere(state: &State, block: &Digest, view: u32) -> bool
+pub(crate) fn is_stored_elsewhere(state: &State, block: &Digest, view: u32) -> bool
     ensures { result ≡ is_stored_elsewhere state.now block.now view }
 {
     match state.view_of(block) {
@@ -32,7 +32,7 @@ pub fn is_stored_elsewhere(state: &State, block: &Digest, view: u32) -> bool
 /// Whether a block is fit: it has exactly as many orders as a quorum has replicas. Each of them is for the block's view
 /// and parent and of a replica of the setting, its lists fit the parent's chain, and its seal fits. The block is given
 /// twice: as a view of its bytes, and owned.
-pub fn is_fit<C: Checker>(
+pub(crate) fn is_fit<C: Checker>(
     state: &State,
     checker: &C,
     view: &BlockView<'_>,

@@ -9,7 +9,12 @@ use seq_base::{NoMemory, SealedOrder};
 use wire_view::VoteView;
 
 /// The first test of a Vote that holds, of those before its order's lists are tested.
-pub fn vote_reason<C: Checker>(state: &State, checker: &C, from: u32, vote: &VoteView<'_>) -> Reason
+pub(crate) fn vote_reason<C: Checker>(
+    state: &State,
+    checker: &C,
+    from: u32,
+    vote: &VoteView<'_>,
+) -> Reason
     ensures value { result ≡ vote_reason (C.meaning checker.now) state.now from vote.now }
     ensures view { result ≡ Reason.Done → vote.now.vote.view ≤ state.now.views }
     ensures own { result ≡ Reason.Done → vote.now.vote.replica ≡ from }
@@ -70,7 +75,7 @@ fn carries_fitly(state: &State, from: u32, vote: &VoteView<'_>) -> bool
 
 /// The first that holds of the tests after those of [`vote_reason`]: they test the lists of the owned order that the vote
 /// carries.
-pub fn owned_vote_reason(
+pub(crate) fn owned_vote_reason(
     state: &State,
     from: u32,
     vote: &VoteView<'_>,

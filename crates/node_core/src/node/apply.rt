@@ -11,7 +11,7 @@ use seal_kit::Sealer;
 use seq_base::{NoMemory, Tx};
 
 impl<S: Sealer> Node<S> {
-    pub(super) fn apply(&mut self, accepted: Accepted<'_>) -> Result<Turned, NoMemory>
+    pub(crate) fn apply(&mut self, accepted: Accepted<'_>) -> Result<Turned, NoMemory>
         requires { IsPassed self.old.state.known accepted }
         ensures ok { IfOk result (λ t.
             applied (S.gives self.old.sealer) self.old.state accepted.entry ≡ record { reported = t; state = self.new.state }) }

@@ -14,7 +14,7 @@ use seq_base::NoMemory;
 use wire_view::CallView;
 
 impl<S: Sealer> Node<S> {
-    pub(super) fn judge_ask<'a, C: Checker>(
+    pub(crate) fn judge_ask<'a, C: Checker>(
         &self,
         checker: &C,
         from: u32,
@@ -32,7 +32,7 @@ impl<S: Sealer> Node<S> {
 
     /// Sends the node's own order to the leader.
     #[tactic(auto, unfolding(crate::specs::Ask::ask_done))]
-    pub(super) fn apply_ask(&mut self, from: u32, call: &CallView<'_>) -> Result<Turned, NoMemory>
+    pub(crate) fn apply_ask(&mut self, from: u32, call: &CallView<'_>) -> Result<Turned, NoMemory>
         requires { IsInRun self.old.state.known call.now }
         ensures ok { IfOk result (λ t.
             ask_done (S.gives self.old.sealer) self.old.state from call.now ≡ record { reported = t; state = self.new.state }) }

@@ -15,7 +15,7 @@ use seq_base::{Block, Digest, NoMemory};
 use wire_view::BlockView;
 
 impl<S: Sealer> Node<S> {
-    pub(super) fn fetch(&self, from: u32, block: &Digest) -> Result<Turned, NoMemory>
+    pub(crate) fn fetch(&self, from: u32, block: &Digest) -> Result<Turned, NoMemory>
         ensures ok { IfOk result (λ t. on_fetch self.now.state from block.now ≡ record { reported = t; state = self.now.state }) }
         ensures unsealed { IfOk result (λ t. t.sealed ≡ []) }
         ensures memory { OnErr result (IsTrue (is_some (block_at self.now.state.known.store block.now))) }
@@ -26,7 +26,7 @@ impl<S: Sealer> Node<S> {
         }
     }
 
-    pub(super) fn judge_give<'a, C: Checker>(
+    pub(crate) fn judge_give<'a, C: Checker>(
         &self,
         checker: &C,
         from: u32,
@@ -62,7 +62,7 @@ impl<S: Sealer> Node<S> {
 
     /// Stores the block.
     #[tactic(auto, unfolding(crate::specs::Give::give_done))]
-    pub(super) fn apply_give(&mut self, block: Block, digest: &Digest) -> Result<Turned, NoMemory>
+    pub(crate) fn apply_give(&mut self, block: Block, digest: &Digest) -> Result<Turned, NoMemory>
         requires { IsStorable self.old.state.known block digest.now }
         ensures ok { IfOk result (λ t.
             give_done self.old.state block ≡ record { reported = t; state = self.new.state }) }

@@ -14,7 +14,7 @@ use wire_view::{MessageView, read};
 
 impl<S: Sealer> Node<S> {
     #[tactic(auto, unfolding(crate::specs::Memory::judging_takes_memory))]
-    pub(super) fn judge<'a, C: Checker>(
+    pub(crate) fn judge<'a, C: Checker>(
         &self,
         checker: &C,
         event: &'a Event,

@@ -15,7 +15,7 @@ use seq_base::NoMemory;
 use wire_view::CallView;
 
 impl<S: Sealer> Node<S> {
-    pub(super) fn judge_new_view<'a, C: Checker>(
+    pub(crate) fn judge_new_view<'a, C: Checker>(
         &self,
         checker: &C,
         from: u32,
@@ -33,7 +33,7 @@ impl<S: Sealer> Node<S> {
 
     /// Counts the call. With those of a quorum the leader asks for local orders.
     #[tactic(auto, unfolding(crate::specs::NewView::new_view_done))]
-    pub(super) fn apply_new_view(
+    pub(crate) fn apply_new_view(
         &mut self,
         from: u32,
         call: &CallView<'_>,

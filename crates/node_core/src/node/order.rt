@@ -14,7 +14,7 @@ use seq_base::{Block, NoMemory, SealedOrder};
 use wire_view::OrderView;
 
 impl<S: Sealer> Node<S> {
-    pub(super) fn judge_order<'a, C: Checker>(
+    pub(crate) fn judge_order<'a, C: Checker>(
         &self,
         checker: &C,
         from: u32,
@@ -46,7 +46,7 @@ impl<S: Sealer> Node<S> {
 
     /// Keeps the order. With those of a quorum the leader proposes a block.
     #[tactic(auto, unfolding(crate::specs::Order::order_done))]
-    pub(super) fn apply_order(&mut self, sealed: SealedOrder) -> Result<Turned, NoMemory>
+    pub(crate) fn apply_order(&mut self, sealed: SealedOrder) -> Result<Turned, NoMemory>
         ensures ok { IfOk result (λ t.
             order_done (S.gives self.old.sealer) self.old.state sealed ≡ record { reported = t; state = self.new.state }) }
         ensures seat { KeepsSeat S.Sealer self.old self.new }

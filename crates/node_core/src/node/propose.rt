@@ -15,7 +15,7 @@ use seq_base::{Block, Digest, NoMemory};
 use wire_view::{BlockView, ProposeView};
 
 impl<S: Sealer> Node<S> {
-    pub(super) fn judge_propose<'a, C: Checker>(
+    pub(crate) fn judge_propose<'a, C: Checker>(
         &self,
         checker: &C,
         from: u32,
@@ -52,7 +52,7 @@ impl<S: Sealer> Node<S> {
 
     /// Stores the block, and votes.
     #[tactic(auto, unfolding(crate::specs::Propose::propose_done))]
-    pub(super) fn apply_propose(
+    pub(crate) fn apply_propose(
         &mut self,
         block: Block,
         digest: &Digest,

@@ -18,7 +18,7 @@ use std::alloc::Global;
 use wire_view::VoteView;
 
 impl<S: Sealer> Node<S> {
-    pub(super) fn judge_vote<'a, C: Checker>(
+    pub(crate) fn judge_vote<'a, C: Checker>(
         &self,
         checker: &C,
         from: u32,
@@ -51,7 +51,7 @@ impl<S: Sealer> Node<S> {
     /// Keeps the vote. With those of a quorum its block is certified. If there is a next view, the leader then proposes
     /// the next block immediately, from the orders that the votes carried.
     #[tactic(auto, unfolding(crate::specs::Vote::vote_done))]
-    pub(super) fn apply_vote(
+    pub(crate) fn apply_vote(
         &mut self,
         view: &VoteView<'_>,
         order: Option<SealedOrder>,

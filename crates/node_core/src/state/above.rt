@@ -11,14 +11,14 @@ use seq_base::Block;
 
 impl State {
     /// How many stored blocks have a view above this one.
-    pub fn count_above(&self, above: u32) -> usize
+    pub(crate) fn count_above(&self, above: u32) -> usize
         ensures { result ≡ length (blocks_above self.now above) }
     {
         count_above(self.blocks.store(), above)
     }
 
     /// The block at a position among the stored blocks of views above this one, in the order in which they were stored.
-    pub fn block_above(&self, above: u32, at: usize) -> Option<&Block>
+    pub(crate) fn block_above(&self, above: u32, at: usize) -> Option<&Block>
         ensures { shown result ≡ slice_get (blocks_above self.now above) at }
     {
         block_above(self.blocks.store(), above, at)

@@ -8,7 +8,7 @@ use std::marker::Model;
 
 /// A replica called for a view.
 #[derive(Clone, Copy)]
-pub struct Call {
+pub(crate) struct Call {
     view: u32,
     replica: u32,
 }
@@ -25,7 +25,7 @@ impl Model for Call {
 
 impl State {
     /// How many replicas called for a view.
-    pub fn gathered_count(&self, view: u32) -> usize
+    pub(crate) fn gathered_count(&self, view: u32) -> usize
         ensures { result ≡ callers_of self.now.gathered view }
     {
         self.gathered
@@ -34,7 +34,7 @@ impl State {
             .count()
     }
 
-    pub fn has_gathered(&self, view: u32, replica: u32) -> bool
+    pub(crate) fn has_gathered(&self, view: u32, replica: u32) -> bool
         ensures { result ≡ has_called self.now.gathered view replica }
     {
         self.gathered
@@ -43,7 +43,7 @@ impl State {
     }
 
     /// A replica called for a view.
-    pub fn gather(&mut self, view: u32, replica: u32) -> Result<(), NoMemory>
+    pub(crate) fn gather(&mut self, view: u32, replica: u32) -> Result<(), NoMemory>
         ensures { OnOk result (self.new ≡ record self.old {
           gathered = self.old.gathered ++ record { view = view; replica = replica } ∷ [];
         }) }

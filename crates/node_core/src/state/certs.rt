@@ -5,7 +5,7 @@ use seq_base::{Cert, CertVote, CertVotes, NoMemory, Seal};
 use std::alloc::Global;
 
 /// A copy of a certificate.
-pub fn copy_of(alloc: Global, cert: &Cert) -> Result<Cert, NoMemory>
+pub(crate) fn copy_of(alloc: Global, cert: &Cert) -> Result<Cert, NoMemory>
     ensures { IfOk result (λ copy. copy ≡ cert.now) }
 {
     let votes = copies_of(alloc, cert.votes.as_slice())?;

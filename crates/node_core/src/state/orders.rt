@@ -11,7 +11,7 @@ use std::mem;
 
 impl State {
     /// Whether an order of this replica is kept for the asked view.
-    pub fn has_order(&self, replica: u32) -> bool
+    pub(crate) fn has_order(&self, replica: u32) -> bool
         ensures { result ≡ has_order self.now.orders replica }
     {
         self.orders
@@ -20,7 +20,7 @@ impl State {
     }
 
     /// The parent of the asked orders.
-    pub fn ask_block(&self) -> &Digest
+    pub(crate) fn ask_block(&self) -> &Digest
         ensures { result.now ≡ self.now.ask_cert.block }
     {
         &self.ask_cert.block
@@ -28,7 +28,7 @@ impl State {
 
     /// Keeps an order for the asked view. If the kept orders are now enough for a block, returns this block, which the
     /// node then proposes, and drops its orders.
-    pub fn keep_order(&mut self, sealed: SealedOrder) -> Result<Option<Block>, NoMemory>
+    pub(crate) fn keep_order(&mut self, sealed: SealedOrder) -> Result<Option<Block>, NoMemory>
         ensures block { IfOk result (λ block. block ≡ asked_block self.old sealed) }
         ensures kept { OnOk result (self.new ≡ keeping self.old sealed) }
     {
@@ -56,7 +56,7 @@ impl State {
 
     /// The block of the next view over a block that got enough votes, with the orders that the votes carried. The node
     /// asks for no orders for that view.
-    pub fn next_block(&mut self, view: u32, formed: Formed) -> Result<Block, NoMemory>
+    pub(crate) fn next_block(&mut self, view: u32, formed: Formed) -> Result<Block, NoMemory>
         requires next { view ≡ formed.cert.view + 1 }
         requires within { view ≤ self.old.views }
         ensures block { IfOk result (λ block. block ≡ next_block formed) }
@@ -73,7 +73,10 @@ impl State {
 }
 
 /// Inserts an order after those of smaller replicas and before those of greater ones.
-pub fn insert_by_replica(orders: &mut Vec<SealedOrder>, sealed: SealedOrder) -> Result<(), NoMemory>
+pub(crate) fn insert_by_replica(
+    orders: &mut Vec<SealedOrder>,
+    sealed: SealedOrder,
+) -> Result<(), NoMemory>
     ensures { OnOk result (orders.new.items ≡ with_order sealed orders.old.items) }
 {
     let at = place_of(orders, sealed.order.replica);

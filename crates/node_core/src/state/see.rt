@@ -12,7 +12,7 @@ use wire_view::{CallView, CertView};
 impl State {
     /// Takes a certificate of a message, whose block is stored. It may become the highest; the view becomes at least
     /// its view; and the lock and the commit move by the rules of the chain.
-    pub fn see(&mut self, cert: &CertView<'_>) -> Result<(), NoMemory>
+    pub(crate) fn see(&mut self, cert: &CertView<'_>) -> Result<(), NoMemory>
         requires { cert.now.view ≤ self.old.views }
         ensures { OnOk result (self.new ≡ seen cert.now self.old) }
     {
@@ -23,7 +23,7 @@ impl State {
     }
 
     /// Takes an owned certificate: that of a block, or one that this node built from votes.
-    pub fn see_owned(&mut self, cert: &Cert) -> Result<(), NoMemory>
+    pub(crate) fn see_owned(&mut self, cert: &Cert) -> Result<(), NoMemory>
         requires { cert.now.view ≤ self.old.views }
         ensures { OnOk result (self.new ≡ seen cert.now self.old) }
     {
@@ -45,7 +45,7 @@ impl State {
     }
 
     /// Takes a NewView: its certificate, and its replica as one that called for the view.
-    pub fn join(&mut self, from: u32, call: &CallView<'_>) -> Result<(), NoMemory>
+    pub(crate) fn join(&mut self, from: u32, call: &CallView<'_>) -> Result<(), NoMemory>
         requires { call.now.cert.view ≤ self.old.views }
         ensures { OnOk result (self.new ≡ joined from call.now self.old) }
     {
@@ -54,7 +54,7 @@ impl State {
     }
 
     /// Notes that local orders are asked for a view, with the highest certificate.
-    pub fn ask_for(&mut self, view: u32) -> Result<(), NoMemory>
+    pub(crate) fn ask_for(&mut self, view: u32) -> Result<(), NoMemory>
         requires { view ≤ self.old.views }
         ensures { OnOk result (self.new ≡ asked_for view self.old) }
     {
@@ -66,7 +66,7 @@ impl State {
     }
 
     /// Takes the certificate of a block, and stores the block.
-    pub fn take_block(&mut self, block: Block, digest: &Digest) -> Result<(), NoMemory>
+    pub(crate) fn take_block(&mut self, block: Block, digest: &Digest) -> Result<(), NoMemory>
         requires { IsStorable self.old block digest.now }
         ensures { OnOk result (self.new ≡ taken block self.old) }
     {

@@ -13,7 +13,7 @@ use std::marker::Model;
 
 /// The votes for a block in a view, and the orders for the next view that they carried, with ascending replicas.
 #[derive(Drop)]
-pub struct Ballot {
+pub(crate) struct Ballot {
     view: u32,
     block: Digest,
     votes: VoteBox,
@@ -94,7 +94,7 @@ impl State {
     }
 
     /// Whether a vote of this replica for the block in the view is kept.
-    pub fn has_vote(&self, view: u32, block: &Digest, replica: u32) -> bool
+    pub(crate) fn has_vote(&self, view: u32, block: &Digest, replica: u32) -> bool
         ensures { result ≡ has_voted self.now.boxes view block.now replica }
     {
         self.boxes
@@ -116,7 +116,7 @@ impl State {
     /// Keeps a vote with its order. Returns the certificate if the vote completes it. Its ballot is then dropped, since
     /// no later vote of its view is taken.
     #[tactic(auto, unfolding(crate::specs::Vote::formed, crate::specs::Vote::keeping))]
-    pub fn keep_vote(
+    pub(crate) fn keep_vote(
         &mut self,
         view: u32,
         block: &Digest,

@@ -6,14 +6,14 @@ use std::test::Fail;
 
 /// The public key of height 5 that grows from 48 bytes 7, and the one from 48 bytes 8. They were computed in Python by
 /// RFC 8554.
-pub const KEY: [u8; 60] = [
+pub(crate) const KEY: [u8; 60] = [
     0, 0, 0, 1, 0, 0, 0, 5, 0, 0, 0, 3, 7, 7, 7, 7, 7, 7, 7, 7, 7, 7, 7, 7, 7, 7, 7, 7, 156, 242,
     160, 85, 65, 137, 63, 94, 171, 19, 167, 132, 49, 149, 208, 148, 24, 149, 191, 21, 26, 41, 162,
     109, 97, 143, 154, 110, 93, 121, 109, 193,
 ];
 
 /// A role in a run of one replica.
-pub fn role(n: u32, views: u32, me: u32, height: u32) -> CRole {
+pub(crate) fn role(n: u32, views: u32, me: u32, height: u32) -> CRole {
     CRole {
         n,
         f: 0,
@@ -25,14 +25,14 @@ pub fn role(n: u32, views: u32, me: u32, height: u32) -> CRole {
     }
 }
 
-pub struct Bench {
-    pub alloc: Global,
-    pub handle: Handle,
+pub(crate) struct Bench {
+    pub(crate) alloc: Global,
+    pub(crate) handle: Handle,
     /// What a call copies goes here.
-    pub buffer: [u8; 8192],
-    pub size: usize,
-    pub count: usize,
-    pub number: u32,
+    pub(crate) buffer: [u8; 8192],
+    pub(crate) size: usize,
+    pub(crate) count: usize,
+    pub(crate) number: u32,
 }
 
 impl Drop for Bench {
@@ -50,7 +50,7 @@ impl Drop for Bench {
 }
 
 impl Bench {
-    pub fn new(alloc: Global) -> Bench {
+    pub(crate) fn new(alloc: Global) -> Bench {
         Bench {
             alloc,
             handle: Handle::vacant(alloc),
@@ -62,7 +62,7 @@ impl Bench {
     }
 
     /// Opens the handle, with a secret of equal bytes. Writes how many bytes of the log are used into `size`.
-    pub fn open(&mut self, role: &CRole, secret: u8, keys: &[[u8; 60]], log: &[u8]) -> u32 {
+    pub(crate) fn open(&mut self, role: &CRole, secret: u8, keys: &[[u8; 60]], log: &[u8]) -> u32 {
         let used = &mut self.size;
         themis_open(
             self.alloc,
@@ -76,12 +76,12 @@ impl Bench {
     }
 
     /// Opens the only replica of a run of four views.
-    pub fn open_one(&mut self, log: &[u8]) -> u32 {
+    pub(crate) fn open_one(&mut self, log: &[u8]) -> u32 {
         self.open(&role(1, 4, 0, 5), 7, &[KEY], log)
     }
 
     /// The header of its log.
-    pub fn header(&mut self) -> Result<Vec<u8>, Fail> {
+    pub(crate) fn header(&mut self) -> Result<Vec<u8>, Fail> {
         let status = themis_header(
             self.alloc,
             &mut self.handle,
@@ -95,12 +95,12 @@ impl Bench {
     }
 
     /// What the last call copied.
-    pub fn copied(&self) -> Result<Vec<u8>, Fail> {
+    pub(crate) fn copied(&self) -> Result<Vec<u8>, Fail> {
         let bytes = self.buffer.get(..self.size).unwrap_or(&[]);
         Ok(bytes.to_vec(self.alloc)?)
     }
 
-    pub fn free(&mut self) {
+    pub(crate) fn free(&mut self) {
         themis_free(self.alloc, &mut self.handle);
     }
 }

@@ -28,10 +28,10 @@ const OTHER: CTx = CTx {
 
 /// A run, with the log of the replica and its messages.
 #[derive(Drop)]
-pub struct Run {
-    pub bench: Bench,
-    pub log: Vec<u8>,
-    pub messages: Vec<Vec<u8>>,
+pub(crate) struct Run {
+    pub(crate) bench: Bench,
+    pub(crate) log: Vec<u8>,
+    pub(crate) messages: Vec<Vec<u8>>,
 }
 
 /// A new replica, with the header of its log.
@@ -130,7 +130,7 @@ impl Run {
 }
 
 /// The run after a transaction arrived, and a tick.
-pub fn played(alloc: Global) -> Result<Run, Fail> {
+pub(crate) fn played(alloc: Global) -> Result<Run, Fail> {
     let mut run = begun(alloc)?;
     if run.arrive()? && run.tick()? && run.deliver()? {
         Ok(run)
