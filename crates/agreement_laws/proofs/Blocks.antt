@@ -25,20 +25,23 @@ found_at (c ∷ blocks) d b is = elim (cases_Bool (digest_eq c.digest d)) [
       (there c blocks b rest.0, rest.1)
 ]
 
-pub at_digest : (blocks : List Named) (b : Named) → Contains blocks b → ((c : Named) → Contains blocks c → c.digest ≡ b.digest → c ≡ b) → block_at blocks b.digest ≡ Some b
+pub at_digest : (blocks : List Named) (b : Named) → Contains blocks b → ((c : Named) → Contains blocks c → c.digest ≡ b.digest → c ≡ b)
+    → block_at blocks b.digest ≡ Some b
 at_digest [] b inside one = absurd (none_inside b inside)
 at_digest (c ∷ blocks) b inside one = elim (cases_same c.digest b.digest) [
   | inl same ↦ cond-true (digest_eq c.digest b.digest) (Some c) (block_at blocks b.digest) (true_same c.digest b.digest same)
       ∙ ap (λ (z : Named). Some z) (one c (here c blocks) same)
-  | inr other ↦ cond-false (digest_eq c.digest b.digest) (Some c) (block_at blocks b.digest) (false_other c.digest b.digest other) ∙ elim (here_or_there c blocks b inside) [
-    | inl same ↦ absurd (other (ap (λ (z : Named). z.digest) same))
-    | inr rest ↦ at_digest blocks b rest (λ d further. one d (there c blocks d further))
-  ]
+  | inr other ↦ cond-false (digest_eq c.digest b.digest) (Some c) (block_at blocks b.digest) (false_other c.digest b.digest other)
+      ∙ elim (here_or_there c blocks b inside) [
+        | inl same ↦ absurd (other (ap (λ (z : Named). z.digest) same))
+        | inr rest ↦ at_digest blocks b rest (λ d further. one d (there c blocks d further))
+      ]
 ]
 
 pub parent_parts : (blocks : List Named) (b p : Named) → parent_in blocks b ≡ Some p → (b.digest ≡ first_digest → ⊥) × (block_at blocks b.cert.block ≡ Some p)
 parent_parts blocks b p is = elim (cases_same b.digest first_digest) [
-  | inl none ↦ absurd (none-some p (sym (cond-true (digest_eq b.digest first_digest) None (block_at blocks b.cert.block) (true_same b.digest first_digest none)) ∙ is))
+  | inl none ↦
+      absurd (none-some p (sym (cond-true (digest_eq b.digest first_digest) None (block_at blocks b.cert.block) (true_same b.digest first_digest none)) ∙ is))
   | inr some ↦ (some, sym (cond-false (digest_eq b.digest first_digest) None (block_at blocks b.cert.block) (false_other b.digest first_digest some)) ∙ is)
 ]
 

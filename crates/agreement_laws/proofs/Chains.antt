@@ -29,7 +29,8 @@ pub after_some : (n : ℕ) (blocks : List Named) (b p : Named) → parent_in blo
 after_some n blocks b p is = ap (λ (o : Option Named). option_map_or (λ (bs : List Named). bs ++ b ∷ []) (option_map (following n blocks) o) []) is
 
 -- the chain from the stored blocks is that from more blocks with the same parents
-module _ (s : Parameters) (prefix : List Entry) (kept : IsKeptPrefix s prefix) (wide : List Named) (stays : (b p : Named) → parent_in (stored prefix) b ≡ Some p → parent_in wide b ≡ Some p) where
+module _ (s : Parameters) (prefix : List Entry) (kept : IsKeptPrefix s prefix) (wide : List Named)
+    (stays : (b p : Named) → parent_in (stored prefix) b ≡ Some p → parent_in wide b ≡ Some p) where
   pub same_after : (n m : ℕ) (b : Named) → Contains (stored prefix) b → b.view ≤ n → b.view ≤ m → following n (stored prefix) b ≡ following m wide b
   same_after zero m b inside low high = elim (cases_same b.digest first_digest) [
     | inl none ↦ sym (after_none m wide b none)
@@ -92,11 +93,15 @@ module _ (s : Parameters) (x : Record) (sound : IsSoundRecord s x) where
   longer prefix other t u (steps, path) =
       let a = commit s prefix in
       let b = commit s other in
-      let on = goes_on s x sound prefix t steps a.view b.view a b (commit_stored s prefix) path (omega arith) (omega arith) in
-      (on.0, chain_known s x sound prefix t a (commit_stored s prefix) ∙ on.1 ∙ ap (λ (bs : List Named). bs ++ on.0) (sym (chain_known s x sound other u b (commit_stored s other))))
+      let on = goes_on s x sound prefix t steps a.view b.view a b (commit_stored s prefix) path (omega arith) (omega arith) in (
+        on.0,
+        chain_known s x sound prefix t a (commit_stored s prefix) ∙ on.1
+            ∙ ap (λ (bs : List Named). bs ++ on.0) (sym (chain_known s x sound other u b (commit_stored s other))),
+      )
 
   pub chains_on_one_line : (prefix other : List Entry) → IsJournalPrefix s x prefix → IsJournalPrefix s x other
       → LeadsTo (known s x) (commit s prefix) (commit s other) ⊎ LeadsTo (known s x) (commit s other) (commit s prefix)
-      → ((more : List Named) × (committed_chain s prefix ≡ committed_chain s other ++ more)) ⊎ ((more : List Named) × (committed_chain s other ≡ committed_chain s prefix ++ more))
+      → ((more : List Named) × (committed_chain s prefix ≡ committed_chain s other ++ more))
+      ⊎ ((more : List Named) × (committed_chain s other ≡ committed_chain s prefix ++ more))
   chains_on_one_line prefix other t u (inl extends) = inl (longer prefix other t u extends)
   chains_on_one_line prefix other t u (inr extends) = inr (longer other prefix u t extends)

@@ -69,12 +69,15 @@ module _ (s : Parameters) (x : Record) (sound : IsSoundRecord s x) where
   back : (a b : Named) → Contains (known s x) a → Contains (known s x) b → History.IsDescendant h a.digest b.digest → LeadsTo (known s x) a b
   back a b one other path = (path.0, leads_from s x sound.uncollided path.0 a b one other path.1)
 
-  on_first : (a b : Named) → Contains (known s x) a → Contains (known s x) b → History.IsDescendant h a.digest h.first → b ≡ first_block → LeadsTo (known s x) a b
-  on_first a b one other path same = back a b one other (path.0, subst (λ (d : Digest). History.IsAncestor h path.0 a.digest d) (ap (λ (c : Named). c.digest) (sym same)) path.1)
+  on_first : (a b : Named) → Contains (known s x) a → Contains (known s x) b → History.IsDescendant h a.digest h.first → b ≡ first_block
+      → LeadsTo (known s x) a b
+  on_first a b one other path same = back a b one other
+      (path.0, subst (λ (d : Digest). History.IsAncestor h path.0 a.digest d) (ap (λ (c : Named). c.digest) (sym same)) path.1)
 
   module _ (agree : (g k : Digest) → History.IsCommitted s h g → History.IsCommitted s h k → History.IsDescendant h g k ⊎ History.IsDescendant h k g)
       (above : (g : Digest) → History.IsCommitted s h g → History.IsDescendant h g h.first) where
-    on_one_line : (a b : Named) → Contains (known s x) a → Contains (known s x) b → (a ≡ first_block) ⊎ History.IsCommitted s h a.digest → (b ≡ first_block) ⊎ History.IsCommitted s h b.digest
+    on_one_line : (a b : Named) → Contains (known s x) a → Contains (known s x) b → (a ≡ first_block) ⊎ History.IsCommitted s h a.digest
+        → (b ≡ first_block) ⊎ History.IsCommitted s h b.digest
         → LeadsTo (known s x) a b ⊎ LeadsTo (known s x) b a
     on_one_line a b one other (inl first_a) (inl first_b) = inl (0, first_a ∙ sym first_b)
     on_one_line a b one other (inl first_a) (inr committed_b) = inr (on_first b a other one (above b.digest committed_b) first_a)

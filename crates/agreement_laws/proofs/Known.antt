@@ -18,7 +18,8 @@ use Rattle.agreement_laws.proofs.Lists.{here, there, here_or_there, kept, when_s
 use Rattle.agreement_laws.proofs.Blocks.{OneADigest, known_at, parent_within, parent_inside}
 use Rattle.agreement_laws.proofs.Prefixes.{stored_cases}
 
-delivered_from : (n : ℕ) (x : Record) (r : ℕ) (e : Entry) (b : Named) → r < n → x.faulty r ≡ false → Contains (x.journal r) e → block_of e.message ≡ Some b → Contains (delivered n x) b
+delivered_from : (n : ℕ) (x : Record) (r : ℕ) (e : Entry) (b : Named) → r < n → x.faulty r ≡ false → Contains (x.journal r) e
+    → block_of e.message ≡ Some b → Contains (delivered n x) b
 delivered_from zero x r e b below honest inside is = absurd (omega (arith, below))
 delivered_from (suc n) x r e b below honest inside is = elim (cases_eq r n) [
   | inl same ↦
@@ -39,15 +40,18 @@ module _ (s : Parameters) (x : Record) (uncollided : IsUncollided s x) where
   one_known a b one other same = elim (here_or_there first_block (delivered s.n x) a one) [
     | inl first_a ↦ elim (here_or_there first_block (delivered s.n x) b other) [
       | inl first_b ↦ sym first_a ∙ first_b
-      | inr later ↦ absurd (All-contains (λ c. c.digest ≢ first_digest) (delivered s.n x) b uncollided.not_first later (sym same ∙ ap (λ (c : Named). c.digest) (sym first_a)))
+      | inr later ↦ absurd (All-contains (λ c. c.digest ≢ first_digest) (delivered s.n x) b uncollided.not_first later
+          (sym same ∙ ap (λ (c : Named). c.digest) (sym first_a)))
     ]
     | inr later_a ↦ elim (here_or_there first_block (delivered s.n x) b other) [
-      | inl first_b ↦ absurd (All-contains (λ c. c.digest ≢ first_digest) (delivered s.n x) a uncollided.not_first later_a (same ∙ ap (λ (c : Named). c.digest) (sym first_b)))
+      | inl first_b ↦ absurd (All-contains (λ c. c.digest ≢ first_digest) (delivered s.n x) a uncollided.not_first later_a
+          (same ∙ ap (λ (c : Named). c.digest) (sym first_b)))
       | inr later_b ↦ uncollided.one_block a b later_a later_b same
     ]
   ]
 
-  pub delivered_known : (r : ℕ) (e : Entry) (b : Named) → IsHonest s x r → Contains (x.journal r) e → block_of e.message ≡ Some b → Contains (known s x) b × (b.digest ≢ first_digest)
+  pub delivered_known : (r : ℕ) (e : Entry) (b : Named) → IsHonest s x r → Contains (x.journal r) e → block_of e.message ≡ Some b
+      → Contains (known s x) b × (b.digest ≢ first_digest)
   delivered_known r e b honest inside is =
       let new = delivered_from s.n x r e b honest.below honest.honest inside is in
       (there first_block (delivered s.n x) b new, All-contains (λ c. c.digest ≢ first_digest) (delivered s.n x) b uncollided.not_first new)
@@ -59,7 +63,8 @@ module _ (s : Parameters) (x : Record) (uncollided : IsUncollided s x) where
   stored_known prefix t b inside = elim (stored_cases prefix b inside) [
     | inl same ↦ subst (λ (c : Named). Contains (known s x) c) same (here first_block (delivered s.n x))
     | inr from ↦
-        (delivered_known t.replica from.item b t.honest (in_prefix prefix t from.item from.inside) (when_some from.item.is_done (block_of from.item.message) b from.gives).1).0
+        (delivered_known t.replica from.item b t.honest (in_prefix prefix t from.item from.inside)
+        (when_some from.item.is_done (block_of from.item.message) b from.gives).1).0
   ]
 
   pub at_known : (b : Named) → Contains (known s x) b → block_at (known s x) b.digest ≡ Some b
@@ -73,7 +78,8 @@ module _ (s : Parameters) (x : Record) (uncollided : IsUncollided s x) where
       ap (λ (o : Option Named). option_map (λ (c : Named). c.digest) (option_and_then (parent_in (known s x)) o)) (at_known b inside)
       ∙ ap (option_map (λ (c : Named). c.digest)) parent
 
-  pub parent_reported : (b : Named) (q : Digest) → Contains (known s x) b → parent_at (known s x) b.digest ≡ Some q → (p : Named) × (parent_in (known s x) b ≡ Some p) × (p.digest ≡ q)
+  pub parent_reported : (b : Named) (q : Digest) → Contains (known s x) b → parent_at (known s x) b.digest ≡ Some q
+      → (p : Named) × (parent_in (known s x) b ≡ Some p) × (p.digest ≡ q)
   parent_reported b q inside parent =
       map_some (λ (c : Named). c.digest) (parent_in (known s x) b) q
       (sym (ap (λ (o : Option Named). option_map (λ (c : Named). c.digest) (option_and_then (parent_in (known s x)) o)) (at_known b inside)) ∙ parent)
@@ -90,8 +96,12 @@ module _ (s : Parameters) (x : Record) (uncollided : IsUncollided s x) where
       )
 
   -- and steps of the history are steps along the blocks of the record
-  pub leads_from : (steps : ℕ) (b a : Named) → Contains (known s x) b → Contains (known s x) a → IsAncestor (history s x) steps b.digest a.digest → Leads (known s x) steps b a
+  pub leads_from : (steps : ℕ) (b a : Named) → Contains (known s x) b → Contains (known s x) a
+      → IsAncestor (history s x) steps b.digest a.digest → Leads (known s x) steps b a
   leads_from zero b a inside other same = one_known b a inside other same
   leads_from (suc steps) b a inside other (q, parent, path) =
-      let p = parent_reported b q inside parent in
-      (p.0, p.1, leads_from steps p.0 a (parent_inside (known s x) b p.0 p.1) other (subst (λ (d : Digest). IsAncestor (history s x) steps d a.digest) (sym p.2) path))
+      let p = parent_reported b q inside parent in (
+        p.0,
+        p.1,
+        leads_from steps p.0 a (parent_inside (known s x) b p.0 p.1) other (subst (λ (d : Digest). IsAncestor (history s x) steps d a.digest) (sym p.2) path),
+      )

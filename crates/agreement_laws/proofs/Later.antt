@@ -45,7 +45,8 @@ module _ (s : Parameters) (prefix : List Entry) (kept : IsKeptPrefix s prefix) w
       ∙ ap (λ (bs : List Named). bs ++ b ∷ []) (exact b.view p.block.view p.block p.is_stored (omega (arith, p.below)) (omega arith))
 
   -- the block at a chain's end follows the chain of its parent
-  at_end : (b : Named) → Contains (stored prefix) b → (b.digest ≡ first_digest → ⊥) → (p : StoredParent prefix b) → StandsAfter prefix (chain (stored prefix) p.block) b
+  at_end : (b : Named) → Contains (stored prefix) b → (b.digest ≡ first_digest → ⊥) → (p : StoredParent prefix b)
+      → StandsAfter prefix (chain (stored prefix) p.block) b
   at_end b inside some p = elim (stored_cases prefix b inside) [
     | inl same ↦ absurd (some (ap (λ (c : Named). c.digest) (sym same)))
     | inr from ↦
@@ -64,31 +65,39 @@ module _ (s : Parameters) (prefix : List Entry) (kept : IsKeptPrefix s prefix) w
   ]
 
   -- a block of a chain is the one at its end, or is in the chain of the parent
-  end_or_before : (a : Named) → Contains (stored prefix) a → (before : List Named) (b : Named) (after : List Named) → chain (stored prefix) a ≡ before ++ b ∷ after
-      → ((p : StoredParent prefix a) (more : List Named) → chain (stored prefix) p.block ≡ before ++ b ∷ more → StandsAfter prefix before b) → StandsAfter prefix before b
+  end_or_before : (a : Named) → Contains (stored prefix) a → (before : List Named) (b : Named) (after : List Named)
+      → chain (stored prefix) a ≡ before ++ b ∷ after
+      → ((p : StoredParent prefix a) (more : List Named) → chain (stored prefix) p.block ≡ before ++ b ∷ more → StandsAfter prefix before b)
+      → StandsAfter prefix before b
   end_or_before a inside before b after is further = elim (cases_same a.digest first_digest) [
     | inl none ↦ absurd (nothing_there before b after (sym (after_none a.view (stored prefix) a none) ∙ is))
     | inr some ↦
         let p = parent_stored s prefix kept a inside some in
         elim (split_last (chain (stored prefix) p.block) a before b after (sym (chain_after_parent a inside some) ∙ is)) [
-          | inl last ↦ subst (λ (c : Named). StandsAfter prefix before c) last.0 (subst (λ (bs : List Named). StandsAfter prefix bs a) last.1 (at_end a inside some p))
+          | inl last ↦ subst (λ (c : Named). StandsAfter prefix before c) last.0
+              (subst (λ (bs : List Named). StandsAfter prefix bs a) last.1 (at_end a inside some p))
           | inr rest ↦ further p rest.0 rest.1
         ]
   ]
 
-  in_chain : (n : ℕ) (a : Named) → a.view ≤ n → Contains (stored prefix) a → (before : List Named) (b : Named) (after : List Named) → chain (stored prefix) a ≡ before ++ b ∷ after
+  in_chain : (n : ℕ) (a : Named) → a.view ≤ n → Contains (stored prefix) a → (before : List Named) (b : Named) (after : List Named)
+      → chain (stored prefix) a ≡ before ++ b ∷ after
       → StandsAfter prefix before b
   in_chain zero a low inside before b after is = end_or_before a inside before b after is (λ p more rest. absurd (omega (arith, p.below, low)))
   in_chain (suc n) a low inside before b after is =
       end_or_before a inside before b after is (λ p more rest. in_chain n p.block (omega (arith, p.below, low)) p.is_stored before b more rest)
 
-  pub stands_after : (a : Named) → Contains (stored prefix) a → (before : List Named) (b : Named) (after : List Named) → chain (stored prefix) a ≡ before ++ b ∷ after → StandsAfter prefix before b
+  pub stands_after : (a : Named) → Contains (stored prefix) a → (before : List Named) (b : Named) (after : List Named)
+      → chain (stored prefix) a ≡ before ++ b ∷ after → StandsAfter prefix before b
   stands_after a inside = in_chain a.view a (omega arith) inside
 
-pub one_chain : (s : Parameters) (x : Record) (prefix other : List Entry) (b c : Named) → IsSoundRecord s x → IsJournalPrefix s x prefix → IsJournalPrefix s x other → Contains (stored prefix) b → Contains (stored other) c
+pub one_chain : (s : Parameters) (x : Record) (prefix other : List Entry) (b c : Named) → IsSoundRecord s x → IsJournalPrefix s x prefix
+    → IsJournalPrefix s x other → Contains (stored prefix) b → Contains (stored other) c
     → b.digest ≡ c.digest → (b ≡ c) × (chain (stored prefix) b ≡ chain (stored other) c)
 one_chain s x prefix other b c sound t u here there same =
-    let one : b ≡ c = one_known s x sound.uncollided b c (stored_known s x sound.uncollided prefix t b here) (stored_known s x sound.uncollided other u c there) same in (
+    let one : b ≡ c =
+    one_known s x sound.uncollided b c (stored_known s x sound.uncollided prefix t b here)
+    (stored_known s x sound.uncollided other u c there) same in (
       one,
       chain_known s x sound prefix t b here ∙ ap (chain (known s x)) one ∙ sym (chain_known s x sound other u c there),
     )

@@ -62,7 +62,8 @@ module _ (s : Parameters) (x : Record) (sound : IsSoundRecord s x) where
   may_be_done r honest e inside done = let at = split_at (x.journal r) e inside in (at.before, (sound.lawful r honest).done at.before e at.after at.is done)
 
   module _ (i : ℕ) (honest_i : IsHonest s x i) where
-    voter_entry : (view : ℕ) (block : Digest) (prefix : List Entry) → ((e : Entry) → Contains prefix e → Contains (x.journal i) e) → (r : ℕ) → Contains (voters view block prefix) r
+    voter_entry : (view : ℕ) (block : Digest) (prefix : List Entry) → ((e : Entry) → Contains prefix e → Contains (x.journal i) e) → (r : ℕ)
+        → Contains (voters view block prefix) r
         → (e : Entry) × Contains (x.journal i) e × (e.is_done ≡ true) × (e.message ≡ Message.Vote r view block)
     voter_entry view block prefix within r inside =
         let from = voter_source view block prefix r inside in
@@ -73,9 +74,11 @@ module _ (s : Parameters) (x : Record) (sound : IsSoundRecord s x) where
         → MayBeDone s before m → ((r : ℕ) (v : Ballot) → IsHonest s x r → Carries m r v → Contains (sealed_in (x.journal r)) v)
         → certified_by s prefix m ≡ Some c → IsFirstOrCertified s h c
     by_message prefix within before (Message.NewView d) c may sealed is =
-        subst (IsFirstOrCertified s h) (same_Some d.block c is) (good_certified d may.0 (λ r honest inside. sealed r (ballot d.view d.block) honest (inside, refl)))
+        subst (IsFirstOrCertified s h) (same_Some d.block c is)
+        (good_certified d may.0 (λ r honest inside. sealed r (ballot d.view d.block) honest (inside, refl)))
     by_message prefix within before (Message.Ask d) c may sealed is =
-        subst (IsFirstOrCertified s h) (same_Some d.block c is) (good_certified d may.0 (λ r honest inside. sealed r (ballot d.view d.block) honest (inside, refl)))
+        subst (IsFirstOrCertified s h) (same_Some d.block c is)
+        (good_certified d may.0 (λ r honest inside. sealed r (ballot d.view d.block) honest (inside, refl)))
     by_message prefix within before (Message.Propose b) c may sealed is =
         subst (IsFirstOrCertified s h) (same_Some b.cert.block c is)
         (good_certified b.cert may.good (λ r honest inside. sealed r (ballot b.cert.view b.cert.block) honest (inside, refl)))
@@ -102,7 +105,8 @@ module _ (s : Parameters) (x : Record) (sound : IsSoundRecord s x) where
   taken_certified prefix t c inside =
       let k = taking s prefix c inside in
       let within : (e : Entry) → Contains k.prefix e → Contains (x.journal t.replica) e =
-      λ e there. in_prefix s x sound.uncollided prefix t e (subst (λ (es : List Entry). Contains es e) (sym k.is) (Contains-append_left k.prefix k.after e there)) in
+      λ e there. in_prefix s x sound.uncollided prefix t e
+      (subst (λ (es : List Entry). Contains es e) (sym k.is) (Contains-append_left k.prefix k.after e there)) in
       let gives = when_some k.entry.is_done (certified_by s k.prefix k.entry.message) c k.takes in
       let done = may_be_done t.replica t.honest k.entry (within k.entry k.inside) gives.0 in
       by_message t.replica t.honest k.prefix within done.0 k.entry.message c done.1
@@ -143,7 +147,8 @@ module _ (s : Parameters) (x : Record) (sound : IsSoundRecord s x) where
     lawful_vote t = All-contains (IsLawfulVote s t.before t.entry) t.entry.sealed t.ballot ((sound.lawful r honest).votes t.before t.entry t.after t.is) t.seals
 
     -- two votes of one entry name the same block
-    same_view : (before : List Entry) (e : Entry) (after : List Entry) → x.journal r ≡ before ++ e ∷ after → (v w : Ballot) → Contains e.sealed v → Contains e.sealed w → v.view ≡ w.view
+    same_view : (before : List Entry) (e : Entry) (after : List Entry) → x.journal r ≡ before ++ e ∷ after → (v w : Ballot)
+        → Contains e.sealed v → Contains e.sealed w → v.view ≡ w.view
     same_view before e after is v w one other =
         let a = lawful_vote (record { before = before; entry = e; after = after; is = is; ballot = v; seals = one }) in
         let b = lawful_vote (record { before = before; entry = e; after = after; is = is; ballot = w; seals = other }) in
@@ -155,7 +160,8 @@ module _ (s : Parameters) (x : Record) (sound : IsSoundRecord s x) where
 
     voted_known : (t : Sealing (x.journal r)) → Contains blocks (lawful_vote t).block × ((lawful_vote t).block.digest ≢ first_digest)
     voted_known t =
-        delivered_known s x sound.uncollided r t.entry (lawful_vote t).block honest (subst (λ (es : List Entry). Contains es t.entry) (sym t.is) (at_split t.before t.entry t.after))
+        delivered_known s x sound.uncollided r t.entry (lawful_vote t).block honest
+        (subst (λ (es : List Entry). Contains es t.entry) (sym t.is) (at_split t.before t.entry t.after))
         (ap block_of (lawful_vote t).delivered)
 
     lock_known : (t : Sealing (x.journal r)) → Contains blocks (lock s t.before)
@@ -217,15 +223,18 @@ module _ (s : Parameters) (x : Record) (sound : IsSoundRecord s x) where
         let v = lawful_vote t in
         let c = v.block.cert in
         let p = (parent_voted t).block in
-        let up : parent_at blocks p.digest ≡ Some path.2.0 = subst (λ (d : Digest). parent_at blocks d ≡ Some path.2.0) (same_parent t path.0 path.1) path.2.1 in
+        let up : parent_at blocks p.digest ≡ Some path.2.0 =
+        subst (λ (d : Digest). parent_at blocks d ≡ Some path.2.0) (same_parent t path.0 path.1) path.2.1 in
         let reported = parent_reported s x sound.uncollided p path.2.0 (parent_voted t).is_known up in
         let stays : Contains (stored u.before) p =
         subst (λ (es : List Entry). Contains (stored es) p) (sym later)
         (stored_later (t.before ++ t.entry ∷ []) gap p (stored_later t.before (t.entry ∷ []) p (parent_voted t).is_stored)) in
         let entry_there : Contains u.before t.entry =
-        subst (λ (es : List Entry). Contains es t.entry) (sym later) (Contains-append_left (t.before ++ t.entry ∷ []) gap t.entry (at_split t.before t.entry [])) in
+        subst (λ (es : List Entry). Contains es t.entry) (sym later)
+        (Contains-append_left (t.before ++ t.entry ∷ []) gap t.entry (at_split t.before t.entry [])) in
         let again = parent_stored s u.before (kept_prefix s x u.before sound (prefix_of u)) p stays (parent_parts blocks p reported.0 reported.1).0 in
-        let among = parent_within blocks (one_known s x sound.uncollided) (stored u.before) (stored_known s x sound.uncollided u.before (prefix_of u)) p again.block again.parent in
+        let among = parent_within blocks (one_known s x sound.uncollided) (stored u.before)
+        (stored_known s x sound.uncollided u.before (prefix_of u)) p again.block again.parent in
         let same : again.block ≡ reported.0 = same_Some again.block reported.0 (sym among ∙ reported.1) in
         let at : block_at (stored u.before) c.block ≡ Some p =
         subst (λ (d : Digest). block_at (stored u.before) d ≡ Some p) (parent_voted t).digest (at_stored u.before (prefix_of u) p stays) in

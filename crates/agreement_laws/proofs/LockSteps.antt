@@ -29,7 +29,8 @@ taken_more s before (x ∷ entries) e =
     let next = before ++ x ∷ [] in
     ap (cons_option (taken_by s next x)) (taken_more s next entries e)
     ∙ cons_append (taken_by s next x) (taken_from s next entries) (cons_option (taken_by s ((next ++ entries) ++ e ∷ []) e) [])
-    ∙ ap (λ (es : List Entry). cons_option (taken_by s next x) (taken_from s next entries) ++ cons_option (taken_by s (es ++ e ∷ []) e) []) (sym (moved before x entries))
+    ∙ ap (λ (es : List Entry). cons_option (taken_by s next x) (taken_from s next entries) ++ cons_option (taken_by s (es ++ e ∷ []) e) [])
+    (sym (moved before x entries))
   where
     cons_append : (o : Option Digest) (xs ys : List Digest) → cons_option o (xs ++ ys) ≡ cons_option o xs ++ ys
     cons_append None xs ys = refl
@@ -58,7 +59,8 @@ block_at_more : (blocks more : List Named) (d : Digest) (b : Named) → block_at
 block_at_more [] more d b at = absurd (none-some b at)
 block_at_more (c ∷ blocks) more d b at = elim (cases_Bool (digest_eq c.digest d)) [
   | inl holds ↦
-      cond-true (digest_eq c.digest d) (Some c) (block_at (blocks ++ more) d) holds ∙ sym (cond-true (digest_eq c.digest d) (Some c) (block_at blocks d) holds) ∙ at
+      cond-true (digest_eq c.digest d) (Some c) (block_at (blocks ++ more) d) holds
+      ∙ sym (cond-true (digest_eq c.digest d) (Some c) (block_at blocks d) holds) ∙ at
   | inr not_so ↦
       cond-false (digest_eq c.digest d) (Some c) (block_at (blocks ++ more) d) not_so
       ∙ block_at_more blocks more d b (sym (cond-false (digest_eq c.digest d) (Some c) (block_at blocks d) not_so) ∙ at)
@@ -68,7 +70,8 @@ parent_none : (blocks : List Named) (b : Named) → b.digest ≡ first_digest �
 parent_none blocks b none = cond-true (digest_eq b.digest first_digest) None (block_at blocks b.cert.block) (true_same b.digest first_digest none)
 
 -- if each certificate's block and each parent is among these, more blocks change nothing
-module _ (blocks more : List Named) (closed : (b : Named) → Contains blocks b → (b.digest ≡ first_digest → ⊥) → (p : Named) × (block_at blocks b.cert.block ≡ Some p)) where
+module _ (blocks more : List Named)
+    (closed : (b : Named) → Contains blocks b → (b.digest ≡ first_digest → ⊥) → (p : Named) × (block_at blocks b.cert.block ≡ Some p)) where
   same_parent : (b : Named) → Contains blocks b → parent_in (blocks ++ more) b ≡ parent_in blocks b
   same_parent b inside = elim (cases_same b.digest first_digest) [
     | inl none ↦ parent_none (blocks ++ more) b none ∙ sym (parent_none blocks b none)
@@ -100,7 +103,8 @@ module _ (blocks more : List Named) (closed : (b : Named) → Contains blocks b 
       ∙ sym (ap (option_and_then (head_after blocks)) at)
 
 -- the block of a certificate that a message delivers is stored
-named_in : (s : Parameters) (prefix before : List Entry) (m : Message) (c : Digest) → MayBeDone s before m → certified_by s prefix m ≡ Some c → (view : ℕ) × IsStored before c view
+named_in : (s : Parameters) (prefix before : List Entry) (m : Message) (c : Digest) → MayBeDone s before m
+    → certified_by s prefix m ≡ Some c → (view : ℕ) × IsStored before c view
 named_in s prefix before (Message.NewView d) c may is = subst (λ (z : Digest). (view : ℕ) × IsStored before z view) (same_Some d.block c is) (d.view, may.1)
 named_in s prefix before (Message.Ask d) c may is = subst (λ (z : Digest). (view : ℕ) × IsStored before z view) (same_Some d.block c is) (d.view, may.1)
 named_in s prefix before (Message.Propose b) c may is =
@@ -118,7 +122,8 @@ module _ (s : Parameters) (prefix : List Entry) (kept : IsKeptPrefix s prefix) w
   taken_named c inside =
       let k = taking s prefix c inside in
       let gives = when_some k.entry.is_done (certified_by s k.prefix k.entry.message) c k.takes in
-      let inside_prefix : Contains prefix k.entry = subst (λ (es : List Entry). Contains es k.entry) (sym k.is) (Contains-append_left k.prefix k.after k.entry k.inside) in
+      let inside_prefix : Contains prefix k.entry =
+      subst (λ (es : List Entry). Contains es k.entry) (sym k.is) (Contains-append_left k.prefix k.after k.entry k.inside) in
       let at = split_at prefix k.entry inside_prefix in
       let named = named_in s k.prefix at.before k.entry.message c (kept.done at.before k.entry at.after at.is gives.0) gives.1 in
       let b = at_named s prefix kept at.before (k.entry ∷ at.after) at.is c named.0 named.1 in
@@ -149,7 +154,9 @@ module _ (s : Parameters) (before : List Entry) (e : Entry) (kept : IsKeptPrefix
 
   moves : (f : List Named → Digest → Option Named)
       → ((c : Digest) (b : Named) → block_at (stored before) c ≡ Some b → f (stored before ++ more) c ≡ f (stored before) c)
-      → highest first_block (filter_map (f (stored after)) (taken s after)) ≡ higher (highest first_block (filter_map (f (stored before)) (taken s before))) (option_and_then (f (stored before)) (taken_by s after e))
+      → highest first_block (filter_map (f (stored after)) (taken s after))
+      ≡ higher (highest first_block (filter_map (f (stored before)) (taken s before)))
+      (option_and_then (f (stored before)) (taken_by s after e))
   moves f stays =
       let now = cons_option (taken_by s after e) [] in
       let old = taken s before in

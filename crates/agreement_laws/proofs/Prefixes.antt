@@ -28,7 +28,8 @@ stored_cases prefix b inside = elim (here_or_there first_block (filter_map store
 pub stored_later : (prefix more : List Entry) (b : Named) → Contains (stored prefix) b → Contains (stored (prefix ++ more)) b
 stored_later prefix more b inside = elim (stored_cases prefix b inside) [
   | inl same ↦ subst (λ (z : Named). Contains (stored (prefix ++ more)) z) same (here first_block (filter_map stored_by (prefix ++ more)))
-  | inr s ↦ there first_block (filter_map stored_by (prefix ++ more)) b (kept stored_by (prefix ++ more) s.item b (Contains-append_left prefix more s.item s.inside) s.gives)
+  | inr s ↦ there first_block (filter_map stored_by (prefix ++ more)) b
+      (kept stored_by (prefix ++ more) s.item b (Contains-append_left prefix more s.item s.inside) s.gives)
 ]
 
 -- voters
@@ -76,7 +77,8 @@ vote_is view block (Message.Give b) r is = absurd (none-some r is)
 vote_is view block (Message.Vote q v d) r is =
     let parts = cond_some (eqb v view && digest_eq d block) q r is in
     let both = and_parts (eqb v view) (digest_eq d block) parts.0 in
-    ap (λ (z : ℕ). Message.Vote z v d) parts.1 ∙ ap (λ (z : ℕ). Message.Vote r z d) (eqb-true v view both.0) ∙ ap (λ (z : Digest). Message.Vote r view z) (same_true d block both.1)
+    ap (λ (z : ℕ). Message.Vote z v d) parts.1 ∙ ap (λ (z : ℕ). Message.Vote r z d) (eqb-true v view both.0)
+    ∙ ap (λ (z : Digest). Message.Vote r view z) (same_true d block both.1)
 vote_is view block Message.Other r is = absurd (none-some r is)
 
 -- the entry that delivered a certificate, the last of a prefix
@@ -114,7 +116,8 @@ taking_from s before (e ∷ entries) c inside =
 pub taking : (s : Parameters) (prefix : List Entry) (c : Digest) → Contains (taken s prefix) c → Taking s prefix c
 taking s prefix c = taking_from s [] prefix c
 
-takes_from : (s : Parameters) (before entries : List Entry) (e : Entry) (c : Digest) → Contains entries e → ((prefix : List Entry) → taken_by s prefix e ≡ Some c)
+takes_from : (s : Parameters) (before entries : List Entry) (e : Entry) (c : Digest) → Contains entries e
+    → ((prefix : List Entry) → taken_by s prefix e ≡ Some c)
     → Contains (taken_from s before entries) c
 takes_from s before [] e c inside takes = absurd (none_inside e inside)
 takes_from s before (x ∷ entries) e c inside takes =

@@ -27,7 +27,8 @@ nothing_after P before (x ∷ gap) e after is = absurd (cc)
 same_heads : {X : Type 0} (x y : X) (xs ys : List X) → x ∷ xs ≡ y ∷ ys → (x ≡ y) × (xs ≡ ys)
 same_heads x y xs ys same = ((cc), (cc))
 
-one_after : (P : List Entry → Entry → Type 0) (before : List Entry) (x : Entry) (entries : List Entry) → P before x → After P (before ++ x ∷ []) entries → After P before (x ∷ entries)
+one_after : (P : List Entry → Entry → Type 0) (before : List Entry) (x : Entry) (entries : List Entry) → P before x
+    → After P (before ++ x ∷ []) entries → After P before (x ∷ entries)
 one_after P before x entries now later [] e after is =
     subst (λ (z : Entry). P (before ++ []) z) (same_heads x e entries after is).0 (subst (λ (es : List Entry). P es x) (sym (append-nil before)) now)
 one_after P before x entries now later (y ∷ gap) e after is =
@@ -125,15 +126,18 @@ all_votes =
     (one_after MaySeal front3 (voted 0) (voted 1 ∷ voted 2 ∷ voted 3 ∷ []) (All-nil (IsLawfulVote five front3 (voted 0)))
     (one_after MaySeal (front3 ++ voted 0 ∷ []) (voted 1) (voted 2 ∷ voted 3 ∷ []) (All-nil (IsLawfulVote five (front3 ++ voted 0 ∷ []) (voted 1)))
     (one_after MaySeal (front3 ++ voted 0 ∷ voted 1 ∷ []) (voted 2) (voted 3 ∷ []) (All-nil (IsLawfulVote five (front3 ++ voted 0 ∷ voted 1 ∷ []) (voted 2)))
-    (one_after MaySeal (front3 ++ voted 0 ∷ voted 1 ∷ voted 2 ∷ []) (voted 3) [] (All-nil (IsLawfulVote five (front3 ++ voted 0 ∷ voted 1 ∷ voted 2 ∷ []) (voted 3)))
+    (one_after MaySeal (front3 ++ voted 0 ∷ voted 1 ∷ voted 2 ∷ []) (voted 3) []
+    (All-nil (IsLawfulVote five (front3 ++ voted 0 ∷ voted 1 ∷ voted 2 ∷ []) (voted 3)))
     (nothing_after MaySeal journal)))))))
 
 views_rise : AllPairs (λ a b. a.view < b.view) (sealed_in journal)
 views_rise =
     let Less : Ballot → Ballot → Type 0 = λ a b. a.view < b.view in
     AllPairs-cons Less (ballot 1 (digest 1)) (ballot 2 (digest 2) ∷ ballot 3 (digest 3) ∷ [])
-    (All-cons (Less (ballot 1 (digest 1))) (ballot 2 (digest 2)) (ballot 3 (digest 3) ∷ []) (omega arith) (All-cons (Less (ballot 1 (digest 1))) (ballot 3 (digest 3)) [] (omega arith) (All-nil (Less (ballot 1 (digest 1))))))
-    (AllPairs-cons Less (ballot 2 (digest 2)) (ballot 3 (digest 3) ∷ []) (All-cons (Less (ballot 2 (digest 2))) (ballot 3 (digest 3)) [] (omega arith) (All-nil (Less (ballot 2 (digest 2)))))
+    (All-cons (Less (ballot 1 (digest 1))) (ballot 2 (digest 2)) (ballot 3 (digest 3) ∷ []) (omega arith)
+    (All-cons (Less (ballot 1 (digest 1))) (ballot 3 (digest 3)) [] (omega arith) (All-nil (Less (ballot 1 (digest 1))))))
+    (AllPairs-cons Less (ballot 2 (digest 2)) (ballot 3 (digest 3) ∷ [])
+    (All-cons (Less (ballot 2 (digest 2))) (ballot 3 (digest 3)) [] (omega arith) (All-nil (Less (ballot 2 (digest 2)))))
     (λ i j d less inside. absurd (omega (arith, less, inside))))
 
 abbrev Sealed : Entry → Type 0
@@ -166,7 +170,8 @@ not_first : (n : ℕ) → 1 ≤ n → digest n ≡ first_digest → ⊥
 not_first n positive same = let none : n ≡ 0 = ap (λ (d : Digest). get_or d.0 0 0) same in absurd (omega (arith, positive, none))
 
 three_more : (rest : List Named) → All Own rest → All Own (one ∷ two ∷ three ∷ rest)
-three_more rest holds = All-cons Own one (two ∷ three ∷ rest) (refl, λ same. not_first 1 (omega arith) same) (All-cons Own two (three ∷ rest) (refl, λ same. not_first 2 (omega arith) same)
+three_more rest holds = All-cons Own one (two ∷ three ∷ rest) (refl, λ same. not_first 1 (omega arith) same)
+    (All-cons Own two (three ∷ rest) (refl, λ same. not_first 2 (omega arith) same)
     (All-cons Own three rest (refl, λ same. not_first 3 (omega arith) same) holds))
 
 all_own : All Own (delivered 5 small)

@@ -70,5 +70,6 @@ pub kept_prefix : (s : Parameters) (x : Record) (prefix : List Entry) → IsSoun
 kept_prefix s x prefix sound t = record {
   done = λ before e after is. (sound.lawful t.replica t.honest).done before e (after ++ t.rest)
       (t.is ∙ ap (λ (es : List Entry). es ++ t.rest) is ∙ append_assoc before (e ∷ after) t.rest);
-  one_block = λ a b one other same. one_known s x sound.uncollided a b (stored_known s x sound.uncollided prefix t a one) (stored_known s x sound.uncollided prefix t b other) same;
+  one_block = λ a b one other same. one_known s x sound.uncollided a b (stored_known s x sound.uncollided prefix t a one)
+      (stored_known s x sound.uncollided prefix t b other) same;
 }

@@ -29,11 +29,14 @@ plain_votes s before (e ∷ entries) =
     ∙ ap (λ (vs : List Ballot). vs ++ map plain rest) (plain_map (lock s before) e.sealed)
     ∙ ap (λ (vs : List Ballot). e.sealed ++ vs) (plain_votes s (before ++ e ∷ []) entries)
 
-pub votes_rise : (s : Parameters) (journal : List Entry) → AllPairs (λ a b. a.view < b.view) (sealed_in journal) → AllPairs (λ a b. a.view < b.view) (votes_from s [] journal)
+pub votes_rise : (s : Parameters) (journal : List Entry) → AllPairs (λ a b. a.view < b.view) (sealed_in journal)
+    → AllPairs (λ a b. a.view < b.view) (votes_from s [] journal)
 votes_rise s journal ascending =
-    pairs_of_map (λ a b. a.view < b.view) plain (votes_from s [] journal) (subst (λ (vs : List Ballot). AllPairs (λ a b. a.view < b.view) vs) (sym (plain_votes s [] journal)) ascending)
+    pairs_of_map (λ a b. a.view < b.view) plain (votes_from s [] journal)
+    (subst (λ (vs : List Ballot). AllPairs (λ a b. a.view < b.view) vs) (sym (plain_votes s [] journal)) ascending)
 
-pub has_voted : (s : Parameters) (journal : List Entry) (view : ℕ) (block : Digest) → Contains (sealed_in journal) (ballot view block) → Any (λ v. v.block ≡ block) (votes_from s [] journal)
+pub has_voted : (s : Parameters) (journal : List Entry) (view : ℕ) (block : Digest) → Contains (sealed_in journal) (ballot view block)
+    → Any (λ v. v.block ≡ block) (votes_from s [] journal)
 has_voted s journal view block inside =
     let found = any_of_map plain (votes_from s [] journal) (ballot view block)
     (subst (λ (vs : List Ballot). Contains vs (ballot view block)) (sym (plain_votes s [] journal)) inside) in
@@ -60,9 +63,11 @@ pairs_map R locked [] votes two later rest = rest
 pairs_map R locked (v ∷ sealed) votes two later rest =
     AllPairs-cons R (vote locked v) (map (vote locked) sealed ++ votes)
     (All-append (R (vote locked v)) (map (vote locked) sealed) votes
-    (All-map (R (vote locked v)) (vote locked) sealed (all_from (λ w. R (vote locked v) (vote locked w)) sealed (λ w inside. two v w (here v sealed) (there v sealed w inside))))
+    (All-map (R (vote locked v)) (vote locked) sealed
+    (all_from (λ w. R (vote locked v) (vote locked w)) sealed (λ w inside. two v w (here v sealed) (there v sealed w inside))))
     (later v (here v sealed)))
-    (pairs_map R locked sealed votes (λ w u one other. two w u (there v sealed w one) (there v sealed u other)) (λ w inside. later w (there v sealed w inside)) rest)
+    (pairs_map R locked sealed votes (λ w u one other. two w u (there v sealed w one) (there v sealed u other))
+    (λ w inside. later w (there v sealed w inside)) rest)
 
 module _ (s : Parameters) (journal : List Entry) where
   -- what holds of each vote sealed after this prefix
@@ -81,14 +86,16 @@ module _ (s : Parameters) (journal : List Entry) where
 
   -- two votes that the same entry sealed
   abbrev Together : (Vote Digest → Vote Digest → Type 0) → Type 0
-  Together R = (before : List Entry) (e : Entry) (after : List Entry) → journal ≡ before ++ e ∷ after → (v w : Ballot) → Contains e.sealed v → Contains e.sealed w
+  Together R = (before : List Entry) (e : Entry) (after : List Entry) → journal ≡ before ++ e ∷ after → (v w : Ballot)
+      → Contains e.sealed v → Contains e.sealed w
       → R (vote (lock s before) v) (vote (lock s before) w)
 
   -- two votes, one of which an earlier entry sealed
   abbrev InTurn : (Vote Digest → Vote Digest → Type 0) → Type 0
   InTurn R = (t u : Sealing journal) (gap : List Entry) → u.before ≡ (t.before ++ t.entry ∷ []) ++ gap → R (cast s journal t) (cast s journal u)
 
-  pairs_after : (R : Vote Digest → Vote Digest → Type 0) (before entries : List Entry) → journal ≡ before ++ entries → Together R → InTurn R → AllPairs R (votes_from s before entries)
+  pairs_after : (R : Vote Digest → Vote Digest → Type 0) (before entries : List Entry) → journal ≡ before ++ entries → Together R → InTurn R
+      → AllPairs R (votes_from s before entries)
   pairs_after R before [] is two each = λ i j d less inside. absurd (omega (arith, inside))
   pairs_after R before (e ∷ entries) is two each =
       let next = before ++ e ∷ [] in

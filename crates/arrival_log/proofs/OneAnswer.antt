@@ -28,7 +28,8 @@ one_place log tx j k arrivals at_j at_k =
       | inr (inr after) ↦ absurd (arrivals.distinct k j tx after (slice_get_within log j tx at_j) (sym same))
     ]
 
-pub one_answer : (log : List Tx) (tx : Tx) (a b : Result Placed SubmitFault) → IsArrivals log → IsAnswer log tx a → IsAnswer log tx b → a ≢ Err NoMemory → b ≢ Err NoMemory → a ≡ b
+pub one_answer : (log : List Tx) (tx : Tx) (a b : Result Placed SubmitFault) → IsArrivals log → IsAnswer log tx a → IsAnswer log tx b
+    → a ≢ Err NoMemory → b ≢ Err NoMemory → a ≡ b
 one_answer log tx (Ok (At j)) (Ok (At k)) arrivals a b _ _ = ap (λ (n : ℕ). Ok (At n)) (a.1 ∙ sym b.1)
 one_answer log tx (Ok (At j)) (Ok (Again k)) arrivals a b _ _ = absurd (not_absent log tx k b a.0)
 one_answer log tx (Ok (At j)) (Err Full) arrivals a b _ _ = absurd (let less = a.2 in let whole = b.1 in omega arith)

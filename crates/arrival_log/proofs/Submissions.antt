@@ -37,7 +37,8 @@ not_both false b e none = refl
 room : (txs : List Tx) (tx : Tx) → (nat_le 65536 (length txs) && not (holds tx txs)) ≡ false → holds tx txs ≡ false → length txs < 65536
 room txs tx open_to none = let less = not_both (nat_le 65536 (length txs)) (holds tx txs) open_to none in grind (arith, nat_tests)
 
-pub no_memory : (txs txs' : List Tx) (tx : Tx) → (nat_le 65536 (length txs) && not (holds tx txs)) ≡ false → list_any (tx_eq tx) txs ≡ false → txs' ≡ txs → IsArrivals txs → IsSubmitted txs tx (Err NoMemory) txs'
+pub no_memory : (txs txs' : List Tx) (tx : Tx) → (nat_le 65536 (length txs) && not (holds tx txs)) ≡ false → list_any (tx_eq tx) txs ≡ false
+    → txs' ≡ txs → IsArrivals txs → IsSubmitted txs tx (Err NoMemory) txs'
 no_memory txs txs' tx open_to none same arrivals =
     let absent = sym (asked_of_a_set tx txs) ∙ none in record {
       cause = (absent, room txs tx open_to absent);
@@ -46,7 +47,8 @@ no_memory txs txs' tx open_to none same arrivals =
     }
 
 -- the insertion of an absent item into a set
-pub inserts : (txs txs' : List Tx) (tx : Tx) (at : ℕ) → txs' ≡ (if list_any (tx_eq tx) txs then txs else txs ++ tx ∷ []) → IsDistinct tx_eq txs' → (nat_le 65536 (length txs) && not (holds tx txs)) ≡ false → list_any (tx_eq tx) txs ≡ false
+pub inserts : (txs txs' : List Tx) (tx : Tx) (at : ℕ) → txs' ≡ (if list_any (tx_eq tx) txs then txs else txs ++ tx ∷ [])
+    → IsDistinct tx_eq txs' → (nat_le 65536 (length txs) && not (holds tx txs)) ≡ false → list_any (tx_eq tx) txs ≡ false
     → at ≡ position_or_len (tx_eq tx) txs → IsSubmitted txs tx (Ok (At at)) txs'
 inserts txs txs' tx at inserted distinct open_to none place =
     let absent = sym (asked_of_a_set tx txs) ∙ none in

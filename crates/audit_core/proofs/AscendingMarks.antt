@@ -32,7 +32,8 @@ module _ {X : Type 0} where
       seam (y ∷ ys) d = seam ys d
 
   -- one more element
-  pub pairs_split : (R : X → X → Type 0) (xs : List X) (x : X) (ys : List X) → AllPairs R (xs ++ x ∷ ys) → All (λ y. R y x) xs × AllPairs R ((xs ++ x ∷ []) ++ ys)
+  pub pairs_split : (R : X → X → Type 0) (xs : List X) (x : X) (ys : List X) → AllPairs R (xs ++ x ∷ ys)
+      → All (λ y. R y x) xs × AllPairs R ((xs ++ x ∷ []) ++ ys)
   pairs_split R xs x ys pairs =
       let moved : AllPairs R ((xs ++ x ∷ []) ++ ys) = subst (AllPairs R) (sym (append_assoc xs (x ∷ []) ys)) pairs in
       (over_last R xs x (pairs_prefix R (xs ++ x ∷ []) ys moved), moved)
@@ -44,7 +45,9 @@ Less earlier later = earlier.view < later.view
 
 pub last_more : (voted : ℕ) (votes : List Ballot) (v : Ballot) → IsLast voted votes → voted < v.view → IsLast v.view (votes ++ v ∷ [])
 last_more voted votes v is above = record {
-  below = All-append (λ b. b.view ≤ v.view) votes (v ∷ []) (All-weaker (λ b. b.view ≤ voted) (λ b. b.view ≤ v.view) (λ b low. omega (arith, low, above)) votes is.below) (All-cons (λ b. b.view ≤ v.view) v [] (omega arith) (All-nil (λ b. b.view ≤ v.view)));
+  below = All-append (λ b. b.view ≤ v.view) votes
+      (v ∷ []) (All-weaker (λ b. b.view ≤ voted) (λ b. b.view ≤ v.view) (λ b low. omega (arith, low, above)) votes is.below)
+      (All-cons (λ b. b.view ≤ v.view) v [] (omega arith) (All-nil (λ b. b.view ≤ v.view)));
   last = inr (v, Contains-append_right votes (v ∷ []) v (here v []), refl);
 }
 
@@ -58,7 +61,13 @@ rises_show lock voted votes (v ∷ new) is rise = (
       let parts = pairs_split Less votes v new h.0 in
       let low : lock < v.view = All-head (λ b. lock < b.view) v new h.1 in
       let above : voted < v.view = over is.last parts.0 low in
-      first.1 (above, (low, (rises_show lock v.view (votes ++ v ∷ []) new (last_more voted votes v is above) (grown above)).1 (parts.1, All-tail (λ b. lock < b.view) v new h.1)))),
+      first.1 (
+        above,
+        (
+          low,
+          (rises_show lock v.view (votes ++ v ∷ []) new (last_more voted votes v is above) (grown above)).1 (parts.1, All-tail (λ b. lock < b.view) v new h.1),
+        ),
+      )),
 )
   where
     first : Decides (rises_from lock voted (v ∷ new)) ((voted < v.view) × ((lock < v.view) × (rises_from lock v.view new ≡ true)))
@@ -79,7 +88,8 @@ rises_show lock voted votes (v ∷ new) is rise = (
           | inr rest ↦ inside bs b rest (All-tail (λ y. Less y v) x bs all)
         ]
 
-pub first_rises : (lock voted : ℕ) (v : Ballot) (new : List Ballot) → rises_from lock voted (v ∷ new) ≡ true → (voted < v.view) × (rises_from lock v.view new ≡ true)
+pub first_rises : (lock voted : ℕ) (v : Ballot) (new : List Ballot) → rises_from lock voted (v ∷ new) ≡ true
+    → (voted < v.view) × (rises_from lock v.view new ≡ true)
 first_rises lock voted v new rises =
     let d = (Decides-and (nat_lt voted v.view) (nat_lt lock v.view && rises_from lock v.view new) (Decides-ltb voted v.view)
     (Decides-and (nat_lt lock v.view) (rises_from lock v.view new) (Decides-ltb lock v.view) ((λ x. x), (λ x. x)))).0 rises in
@@ -88,7 +98,8 @@ first_rises lock voted v new rises =
 -- ---- marks
 
 -- one more mark
-pub one_mark : (met : List (ℕ × ℕ)) (marks : List Mark) (m : Mark) → ((n : Mark) → (has_mark met n ≡ true) ↔ Contains marks n) → (n : Mark) → (has_mark (with_mark m met) n ≡ true) ↔ Contains (marks ++ m ∷ []) n
+pub one_mark : (met : List (ℕ × ℕ)) (marks : List Mark) (m : Mark) → ((n : Mark) → (has_mark met n ≡ true) ↔ Contains marks n) → (n : Mark)
+    → (has_mark (with_mark m met) n ≡ true) ↔ Contains (marks ++ m ∷ []) n
 one_mark met marks m same n = (
   λ has. elim (or_cases (mark_eq m n) (has_mark met n) (sym (one_mark_more met m n) ∙ has)) [
     | inl is ↦ Contains-append_right marks (m ∷ []) n (subst (λ (y : Mark). Contains (m ∷ []) y) ((mark_decides m n).0 is) (here m []))
@@ -107,7 +118,8 @@ pub marks_show : (met : List (ℕ × ℕ)) (marks new : List Mark) → ((m : Mar
     → Decides (are_new met new) (AllPairs (λ a b. a ≢ b) (marks ++ new))
 marks_show met marks [] same apart = ((λ yes. subst (AllPairs (λ a b. a ≢ b)) (sym (append-nil marks)) apart), (λ h. refl))
 marks_show met marks (m ∷ new) same apart = (
-  (λ yes. (let d = first.0 yes in subst (AllPairs (λ a b. a ≢ b)) (append_assoc marks (m ∷ []) new) ((marks_show (with_mark m met) (marks ++ m ∷ []) new (one_mark met marks m same) (grown d.0)).0 d.1))),
+  (λ yes. (let d = first.0 yes in subst (AllPairs (λ a b. a ≢ b)) (append_assoc marks (m ∷ []) new)
+      ((marks_show (with_mark m met) (marks ++ m ∷ []) new (one_mark met marks m same) (grown d.0)).0 d.1))),
   (λ h.
       let parts = pairs_split (λ a b. a ≢ b) marks m new h in
       let out : has_mark met m ≡ true → ⊥ = λ has. apart_from marks ((same m).0 has) parts.0 in
@@ -125,4 +137,5 @@ marks_show met marks (m ∷ new) same apart = (
     ]
 
     grown : (has_mark met m ≡ true → ⊥) → AllPairs (λ a b. a ≢ b) (marks ++ m ∷ [])
-    grown out = pairs_more (λ a b. a ≢ b) marks m apart (all_from (λ y. y ≢ m) marks (λ y has is. out ((same m).1 (subst (λ (z : Mark). Contains marks z) is has))))
+    grown out = pairs_more (λ a b. a ≢ b) marks m apart
+        (all_from (λ y. y ≢ m) marks (λ y has is. out ((same m).1 (subst (λ (z : Mark). Contains marks z) is has))))

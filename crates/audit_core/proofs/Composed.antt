@@ -28,17 +28,29 @@ abbrev pub moved : Audited → ℕ → List (ℕ × ℕ) → ℕ → Audited
 moved j kept marks voted = record j { kept = kept; marks = marks; safety = record j.safety { voted = voted } }
 
 voted_if : (t : Bool) (store : List Block) (view : ℕ) (block : Digest) (safe : Safe) (voted : ℕ)
-    → (if t then seen_in store view block (record safe { voted = voted }) else record safe { voted = voted }) ≡ record (if t then seen_in store view block safe else safe) { voted = voted }
+    → (if t then seen_in store view block (record safe { voted = voted }) else record safe { voted = voted })
+    ≡ record (if t then seen_in store view block safe else safe) { voted = voted }
 voted_if true store view block safe voted = refl
 voted_if false store view block safe voted = refl
 
 -- These change nothing of what is applied.
-pub taken_moved : (b : Carried) (j : Audited) (kept : ℕ) (marks : List (ℕ × ℕ)) (voted : ℕ) → taken b (moved j kept marks voted) ≡ moved (taken b j) kept marks voted
+pub taken_moved : (b : Carried) (j : Audited) (kept : ℕ) (marks : List (ℕ × ℕ)) (voted : ℕ)
+    → taken b (moved j kept marks voted) ≡ moved (taken b j) kept marks voted
 taken_moved carried.Nothing j kept marks voted = refl
 taken_moved (carried.Cert view block) j kept marks voted = refl
 taken_moved (carried.Block digest block proposed) j kept marks voted = refl
 taken_moved (carried.Vote replica view block) j kept marks voted =
-    ap (λ (s : Safe). record { setting = j.setting; replica = j.replica; arrivals = j.arrivals; kept = kept; store = j.store; safety = s; voters = counted replica block j.voters; marks = marks })
+    ap (λ (s : Safe).
+    record {
+      setting = j.setting;
+      replica = j.replica;
+      arrivals = j.arrivals;
+      kept = kept;
+      store = j.store;
+      safety = s;
+      voters = counted replica block j.voters;
+      marks = marks;
+    })
     (voted_if (nat_le (quorum_of j.setting) (length (add_voter replica (voters_of j.voters block)))) j.store view block j.safety voted)
 
 vote_moved : (b : Carried) (j : Audited) (kept : ℕ) (marks : List (ℕ × ℕ)) (voted : ℕ) (v : Ballot) → vote_on (moved j kept marks voted) b v ≡ vote_on j b v
@@ -74,7 +86,8 @@ module _ (fits : Check) (j : Audited) (e : Entry) where
       left false u is = absurd (cc)
 
   -- the state after the steps
-  pub after_steps : (kept : ℕ) (marks : List (ℕ × ℕ)) (voted : ℕ) → kept ≡ j.kept + length (arrived_by e.event) → marks ≡ marked j.marks (marks_in e.turned.sealed)
+  pub after_steps : (kept : ℕ) (marks : List (ℕ × ℕ)) (voted : ℕ) → kept ≡ j.kept + length (arrived_by e.event)
+      → marks ≡ marked j.marks (marks_in e.turned.sealed)
       → voted ≡ last_view j.safety.voted (ballots_by e) → taken (carried_in e) (moved j kept marks voted) ≡ next_on j e
   after_steps kept marks voted is_kept are_marks is_voted =
       taken_moved (carried_in e) j kept marks voted

@@ -54,49 +54,61 @@ stored_is store d = by (digest_eq d first_digest) (block_at store d)
 
 -- ---- rule 3
 
-module _ (one_more : StandsForOneMore) (by : Scale) (before : List Entry) (e : Entry) (store : List Block) (tied : IsTied store (stored_in (up_to before e))) (led : StoreKept store) where
-  drawn_reported : (statement : List ℕ) → drawn_on (record { setting = by.setting; blocks = store }) (take e.turned.kept by.arrivals) statement ≡ is_drawn by before e statement
+module _ (one_more : StandsForOneMore) (by : Scale) (before : List Entry) (e : Entry) (store : List Block)
+    (tied : IsTied store (stored_in (up_to before e))) (led : StoreKept store) where
+  drawn_reported : (statement : List ℕ)
+      → drawn_on (record { setting = by.setting; blocks = store }) (take e.turned.kept by.arrivals) statement ≡ is_drawn by before e statement
   drawn_reported statement =
       and_on (is_stored store (parent_named statement)) (is_some (shown_at (stored_in (up_to before e)) (parent_named statement))) _ _
       (stored_is store (parent_named statement) ∙ ap is_some (sym (tied.same (parent_named statement))))
       (λ is. on (at store (parent_named statement)) refl (sym (stored_is store (parent_named statement)) ∙ is))
     where
       on : (o : Option Named) → at store (parent_named statement) ≡ o → is_some (at store (parent_named statement)) ≡ true
-          → pointwise ◌==◌ statement (order_spelling (order_drawn (replica_named statement) (view_named statement) (parent_named statement) (take e.turned.kept by.arrivals)
+          → pointwise ◌==◌ statement
+          (order_spelling (order_drawn (replica_named statement) (view_named statement) (parent_named statement) (take e.turned.kept by.arrivals)
           (chain_state_of (record { setting = by.setting; blocks = store }) (parent_named statement))))
           ≡ pointwise ◌==◌ statement (order_spelling (order_named by before e statement))
       on None none is = absurd (let never : false ≡ true = sym (ap is_some none) ∙ is in cc)
       on (Some n) found is =
-          ap (λ (c : Standings). pointwise ◌==◌ statement (order_spelling (order_drawn (replica_named statement) (view_named statement) (parent_named statement) (take e.turned.kept by.arrivals) c)))
+          ap (λ (c : Standings). pointwise ◌==◌ statement
+          (order_spelling (order_drawn (replica_named statement) (view_named statement) (parent_named statement) (take e.turned.kept by.arrivals) c)))
           (state_shows store (up_to before e) tied one_more by.setting led (parent_named statement) n found)
 
   pub draws_reported : are_drawn (record { setting = by.setting; blocks = store }) (take e.turned.kept by.arrivals) e.turned.sealed ≡ draws by before e
-  draws_reported = same_all (λ statement. not (get_or statement 0 0 == ORDER) || drawn_on (record { setting = by.setting; blocks = store }) (take e.turned.kept by.arrivals) statement)
+  draws_reported = same_all (λ statement. not (get_or statement 0 0 == ORDER)
+      || drawn_on (record { setting = by.setting; blocks = store }) (take e.turned.kept by.arrivals) statement)
       (λ statement. not (get_or statement 0 0 == ORDER) || is_drawn by before e statement)
       (λ statement. ap (λ (t : Bool). not (get_or statement 0 0 == ORDER) || t) (drawn_reported statement)) e.turned.sealed
 
 -- what a prefix stored is found in the store, with its view
-pub stored_with : (store : List Block) (before : List Entry) → IsTied store (stored_in before) → (d : Digest) (v : ℕ) → IsStored (map shown before) d v → (n : Named) × (at store d ≡ Some n) × (n.view ≡ v)
-stored_with store before tied d v is = (is.1, subst (λ (c : Digest). at store c ≡ Some is.1) is.4.0 (tied.listed is.1 (in_any (λ b. (b.digest ≡ d) × (b.view ≡ v)) (stored_in before) is)), is.4.1)
+pub stored_with : (store : List Block) (before : List Entry) → IsTied store (stored_in before) → (d : Digest) (v : ℕ)
+    → IsStored (map shown before) d v → (n : Named) × (at store d ≡ Some n) × (n.view ≡ v)
+stored_with store before tied d v is =
+    (is.1, subst (λ (c : Digest). at store c ≡ Some is.1) is.4.0 (tied.listed is.1 (in_any (λ b. (b.digest ≡ d) × (b.view ≡ v)) (stored_in before) is)), is.4.1)
 
-stored_there : (store : List Block) (before : List Entry) → IsTied store (stored_in before) → (d : Digest) (v : ℕ) → IsStored (map shown before) d v → (n : Named) × (at store d ≡ Some n)
+stored_there : (store : List Block) (before : List Entry) → IsTied store (stored_in before) → (d : Digest) (v : ℕ)
+    → IsStored (map shown before) d v → (n : Named) × (at store d ≡ Some n)
 stored_there store before tied d v is = (let p = stored_with store before tied d v is in (p.0, p.1))
 
 -- ---- rule 5
 
-module _ (by : Scale) (before : List Entry) (j : Audited) (stands : Stands by before j) (e : Entry) (kept : IsKeptPrefix by.setting (map shown before)) (takes : Takes by before e)
+module _ (by : Scale) (before : List Entry) (j : Audited) (stands : Stands by before j) (e : Entry)
+    (kept : IsKeptPrefix by.setting (map shown before)) (takes : Takes by before e)
     (reach : (child ancestor : Digest) → is_stored j.store child ≡ true → Extends j.store child ancestor → extends j.store child ancestor ≡ true) where
   pub votes_reported : votes_on j e ≡ votes by before e
   votes_reported = elim (cases_Bool (is_done e.turned.reason)) [
     | inl done ↦ same_all (vote_on j (carried_in e)) (is_vote_for (stored_in before) (lock_in by.setting before) (shown e).message)
-        (subst (λ (t : Bool). (v : Ballot) → vote_on j (carried_if t (message_in e.event)) v ≡ is_vote_for (stored_in before) (lock_in by.setting before) (shown_message (message_in e.event)) v) (sym done)
+        (subst (λ (t : Bool). (v : Ballot) → vote_on j (carried_if t (message_in e.event)) v
+        ≡ is_vote_for (stored_in before) (lock_in by.setting before) (shown_message (message_in e.event)) v) (sym done)
         (by_message (message_in e.event) refl done)) (ballots_by e)
     | inr idle ↦
         let none : ballots_by e ≡ [] = ap (filter_map ballot_in) (takes.idle idle).1 in
-        subst (λ (vs : List Ballot). list_all (vote_on j (carried_in e)) vs ≡ list_all (is_vote_for (stored_in before) (lock_in by.setting before) (shown e).message) vs) (sym none) refl
+        subst (λ (vs : List Ballot). list_all (vote_on j (carried_in e)) vs
+        ≡ list_all (is_vote_for (stored_in before) (lock_in by.setting before) (shown e).message) vs) (sym none) refl
   ]
     where
-      by_message : (m : Option MessageView) → message_in e.event ≡ m → is_done e.turned.reason ≡ true → (v : Ballot) → vote_on j (carried_by m) v ≡ is_vote_for (stored_in before) (lock_in by.setting before) (shown_message m) v
+      by_message : (m : Option MessageView) → message_in e.event ≡ m → is_done e.turned.reason ≡ true → (v : Ballot)
+          → vote_on j (carried_by m) v ≡ is_vote_for (stored_in before) (lock_in by.setting before) (shown_message m) v
       by_message None is done v = refl
       by_message (Some (NewView call)) is done v = refl
       by_message (Some (Ask call)) is done v = refl

@@ -24,7 +24,8 @@ or_more : (o p q : Option Place) → option_or o (option_or p q) ≡ option_or (
 or_more None p q = refl
 or_more (Some x) p q = refl
 
-broken_append : (by : Scale) (before xs ys : List Entry) → broken_from by before (xs ++ ys) ≡ option_or (broken_from by before xs) (broken_from by (before ++ xs) ys)
+broken_append : (by : Scale) (before xs ys : List Entry)
+    → broken_from by before (xs ++ ys) ≡ option_or (broken_from by before xs) (broken_from by (before ++ xs) ys)
 unfolding broken_from
 broken_append by before [] ys = ap (λ (prefix : List Entry). broken_from by prefix ys) (sym (append-nil before))
 broken_append by before (x ∷ xs) ys =
@@ -36,15 +37,20 @@ broken_append by before (x ∷ xs) ys =
 pub reported_after : (by : Scale) (prefix : List Entry) (e : Entry) (after : List Entry) → first_broken by prefix ≡ None
     → first_broken by (prefix ++ e ∷ after) ≡ option_or (option_map (place (length prefix)) (broken_by by prefix e)) (broken_from by (prefix ++ e ∷ []) after)
 unfolding broken_from
-reported_after by prefix e after clean = broken_append by [] prefix (e ∷ after) ∙ ap (λ (o : Option Place). option_or o (broken_from by prefix (e ∷ after))) clean
+reported_after by prefix e after clean =
+    broken_append by [] prefix (e ∷ after) ∙ ap (λ (o : Option Place). option_or o (broken_from by prefix (e ∷ after))) clean
 
-pub clean_more : (by : Scale) (prefix : List Entry) (e : Entry) → first_broken by prefix ≡ None → broken_by by prefix e ≡ None → first_broken by (prefix ++ e ∷ []) ≡ None
+pub clean_more : (by : Scale) (prefix : List Entry) (e : Entry) → first_broken by prefix ≡ None → broken_by by prefix e ≡ None
+    → first_broken by (prefix ++ e ∷ []) ≡ None
 unfolding broken_from
-clean_more by prefix e clean none = reported_after by prefix e [] clean ∙ ap (λ (o : Option ℕ). option_or (option_map (place (length prefix)) o) (broken_from by (prefix ++ e ∷ []) [])) none
+clean_more by prefix e clean none = reported_after by prefix e [] clean
+    ∙ ap (λ (o : Option ℕ). option_or (option_map (place (length prefix)) o) (broken_from by (prefix ++ e ∷ []) [])) none
 
-pub broken_here : (by : Scale) (prefix : List Entry) (e : Entry) (after : List Entry) (rule : ℕ) → first_broken by prefix ≡ None → broken_by by prefix e ≡ Some rule
+pub broken_here : (by : Scale) (prefix : List Entry) (e : Entry) (after : List Entry) (rule : ℕ) → first_broken by prefix ≡ None
+    → broken_by by prefix e ≡ Some rule
     → first_broken by (prefix ++ e ∷ after) ≡ Some (place (length prefix) rule)
-broken_here by prefix e after rule clean some = reported_after by prefix e after clean ∙ ap (λ (o : Option ℕ). option_or (option_map (place (length prefix)) o) (broken_from by (prefix ++ e ∷ []) after)) some
+broken_here by prefix e after rule clean some = reported_after by prefix e after clean
+    ∙ ap (λ (o : Option ℕ). option_or (option_map (place (length prefix)) o) (broken_from by (prefix ++ e ∷ []) after)) some
 
 -- ---- the entry at a place
 
@@ -59,14 +65,16 @@ module _ (by : Scale) (entries : List Entry) (at : ℕ) (e : Entry) (is : e ≡ 
       ∙ append_assoc (take at entries) (e ∷ []) (drop (at + 1) entries)
 
   -- It breaks nothing, and the state belongs to the prefix that ends with it.
-  pub as_far_more : (j k : Audited) → AsFar by entries at j → broken_by by (take at entries) e ≡ None → HasAudited by (up_to (take at entries) e) k → AsFar by entries (at + 1) k
+  pub as_far_more : (j k : Audited) → AsFar by entries at j → broken_by by (take at entries) e ≡ None
+      → HasAudited by (up_to (take at entries) e) k → AsFar by entries (at + 1) k
   as_far_more j k far none audited = record {
     audited = subst (λ (prefix : List Entry). HasAudited by prefix k) (sym prefix_more) audited;
     clean = ap (first_broken by) prefix_more ∙ clean_more by (take at entries) e far.clean none;
   }
 
   -- It breaks a rule, and is the first one that does.
-  pub reported_here : (j : Audited) (rule : ℕ) → AsFar by entries at j → broken_by by (take at entries) e ≡ Some rule → first_broken by entries ≡ Some (place at rule)
+  pub reported_here : (j : Audited) (rule : ℕ) → AsFar by entries at j → broken_by by (take at entries) e ≡ Some rule
+      → first_broken by entries ≡ Some (place at rule)
   reported_here j rule far some =
       ap (first_broken by) whole
       ∙ broken_here by (take at entries) e (drop (at + 1) entries) rule far.clean some
@@ -78,9 +86,12 @@ pub as_far_at_first : (by : Scale) (entries : List Entry) (j : Audited) → HasA
 unfolding broken_from
 as_far_at_first by entries j audited = record { audited = audited; clean = refl }
 
-pub audited_all : (by : Scale) (entries : List Entry) (at : ℕ) (j : Audited) → length entries ≤ at → AsFar by entries at j → HasAudited by entries j × (first_broken by entries ≡ None)
-audited_all by entries at j past far =
-    (subst (λ (prefix : List Entry). HasAudited by prefix j) (take_all at entries past) far.audited, ap (first_broken by) (sym (take_all at entries past)) ∙ far.clean)
+pub audited_all : (by : Scale) (entries : List Entry) (at : ℕ) (j : Audited) → length entries ≤ at → AsFar by entries at j
+    → HasAudited by entries j × (first_broken by entries ≡ None)
+audited_all by entries at j past far = (
+  subst (λ (prefix : List Entry). HasAudited by prefix j) (take_all at entries past) far.audited,
+  ap (first_broken by) (sym (take_all at entries past)) ∙ far.clean,
+)
 
 -- ---- a replica's part of the record
 
@@ -90,7 +101,8 @@ module _ (fits : Check) (run : RunRecord) (r : ℕ) (entries : List Entry) (is :
   found_at at found = ap (λ (o : Option Place). option_or o (after_last run r)) (sym found ∙ ap (first_broken (scale_of fits run r)) is)
 
   -- none is, so the broken rule comes after the last entry
-  pub found_after : (o : Option ℕ) → first_broken (scale_of fits run r) entries ≡ None → o ≡ broken_after run.setting entries (commit_in run r) (batches_in run r)
+  pub found_after : (o : Option ℕ) → first_broken (scale_of fits run r) entries ≡ None
+      → o ≡ broken_after run.setting entries (commit_in run r) (batches_in run r)
       → option_map (place (length entries)) o ≡ broken_in fits run r
   found_after o none reported =
       ap (option_map (place (length entries))) reported

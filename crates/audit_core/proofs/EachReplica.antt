@@ -24,12 +24,15 @@ module _ (fits : Check) (run : RunRecord) where
       ap (λ (n : ℕ). first_of (unlawful_in fits run) (range_with_len replica n)) more
 
   -- this one has an answer
-  pub reported_first : (replica : ℕ) (reported : Unlawful) → replica < run.setting.n → first_unlawful_of fits run ≡ reported_from replica → unlawful_in fits run replica ≡ Some reported
+  pub reported_first : (replica : ℕ) (reported : Unlawful) → replica < run.setting.n → first_unlawful_of fits run ≡ reported_from replica
+      → unlawful_in fits run replica ≡ Some reported
       → Some reported ≡ first_unlawful_of fits run
-  reported_first replica reported below all some = sym (all ∙ one_off replica below ∙ ap (λ (o : Option Unlawful). option_or o (reported_from (replica + 1))) some)
+  reported_first replica reported below all some =
+      sym (all ∙ one_off replica below ∙ ap (λ (o : Option Unlawful). option_or o (reported_from (replica + 1))) some)
 
   -- it has none
-  pub reported_later : (replica : ℕ) → replica < run.setting.n → first_unlawful_of fits run ≡ reported_from replica → unlawful_in fits run replica ≡ None → first_unlawful_of fits run ≡ reported_from (replica + 1)
+  pub reported_later : (replica : ℕ) → replica < run.setting.n → first_unlawful_of fits run ≡ reported_from replica
+      → unlawful_in fits run replica ≡ None → first_unlawful_of fits run ≡ reported_from (replica + 1)
   reported_later replica below all none = all ∙ one_off replica below ∙ ap (λ (o : Option Unlawful). option_or o (reported_from (replica + 1))) none
 
   -- none is left

@@ -22,20 +22,26 @@ use Rattle.audit_core.specs.Stands.{HasAudited}
 use Rattle.audit_core.proofs.NextPrefix.{Laws}
 use Rattle.audit_core.proofs.Whole.{reported, audited_next}
 
-module _ (laws : Laws) (one_more : StandsForOneMore) (good : (fits : ℕ → List ℕ → List ℕ → Bool) (s : Parameters) (c : Cert) → (is_good fits s c ≡ true) ↔ IsGood fits s c)
-    (steps : (store : List Block) (child ancestor : Digest) → IsStore store → is_stored store child ≡ true → (extends store child ancestor ≡ true) ↔ Extends store child ancestor)
-    (j : Audited) (is_store : IsStore j.store) (fits : Check) (e : Entry) (by : Scale) (before : List Entry) (same : by.fits ≡ fits) (audited : HasAudited by before j) where
+module _ (laws : Laws) (one_more : StandsForOneMore)
+    (good : (fits : ℕ → List ℕ → List ℕ → Bool) (s : Parameters) (c : Cert) → (is_good fits s c ≡ true) ↔ IsGood fits s c)
+    (steps : (store : List Block) (child ancestor : Digest) → IsStore store → is_stored store child ≡ true
+    → (extends store child ancestor ≡ true) ↔ Extends store child ancestor)
+    (j : Audited) (is_store : IsStore j.store) (fits : Check) (e : Entry) (by : Scale) (before : List Entry) (same : by.fits ≡ fits)
+    (audited : HasAudited by before j) where
   least : IsReadable e.event → rule_on fits j e ≡ broken_by by before e
   least can =
       ap (λ (f : Check). rule_on f j e) (sym same)
       ∙ reported laws one_more good by before j audited e can (λ child ancestor there following. (steps j.store child ancestor is_store there).1 following)
 
-  pub rule_of : {E : Type 0} (r : Result (Option ℕ) E) → IfOk r (λ rule. rule ≡ rule_on fits j e) → IfOk r (λ rule. IsReadable e.event) → IfOk r (λ rule. rule ≡ broken_by by before e)
+  pub rule_of : {E : Type 0} (r : Result (Option ℕ) E) → IfOk r (λ rule. rule ≡ rule_on fits j e) → IfOk r (λ rule. IsReadable e.event)
+      → IfOk r (λ rule. rule ≡ broken_by by before e)
   rule_of (Ok rule) is can = is ∙ least can
   rule_of (Err fault) is can = tt
 
-  pub audited_of : {E : Type 0} (r : Result (Option ℕ) E) (new : Audited) → IfOk r (λ rule. rule ≡ rule_on fits j e) → IfOk r (λ rule. IsReadable e.event) → IfOk r (λ rule. IfNone rule (new ≡ next_on j e))
+  pub audited_of : {E : Type 0} (r : Result (Option ℕ) E) (new : Audited) → IfOk r (λ rule. rule ≡ rule_on fits j e)
+      → IfOk r (λ rule. IsReadable e.event) → IfOk r (λ rule. IfNone rule (new ≡ next_on j e))
       → IfOk r (λ rule. IfNone rule (HasAudited by (up_to before e) new))
-  audited_of (Ok None) new is can next = subst (HasAudited by (up_to before e)) (sym next) (audited_next laws one_more good by before j audited e can (sym (is ∙ least can)))
+  audited_of (Ok None) new is can next =
+      subst (HasAudited by (up_to before e)) (sym next) (audited_next laws one_more good by before j audited e can (sym (is ∙ least can)))
   audited_of (Ok (Some rule)) new is can next = tt
   audited_of (Err fault) new is can next = tt

@@ -91,14 +91,17 @@ in_order true true true true true true a b on = on refl
 
 module _ (by : Scale) (before : List Entry) (j : Audited) (stands : Stands by before j) (e : Entry) where
   pub arrived_more : arrived_in (up_to before e) ≡ arrived_in before ++ arrived_by e.event
-  arrived_more = flat_map-append (λ (x : Entry). arrived_by x.event) before (e ∷ []) ∙ ap (λ (ts : List Tx). arrived_in before ++ ts) (append-nil (arrived_by e.event))
+  arrived_more = flat_map-append (λ (x : Entry). arrived_by x.event) before (e ∷ [])
+      ∙ ap (λ (ts : List Tx). arrived_in before ++ ts) (append-nil (arrived_by e.event))
 
   pub ballots_more : ballots_in (map shown (up_to before e)) ≡ ballots_in (map shown before) ++ ballots_by e
-  ballots_more = ap ballots_in (map-append shown before (e ∷ [])) ∙ flat_map-append (λ (x : Plain). x.sealed) (map shown before) (shown e ∷ []) ∙ ap (λ (vs : List Ballot). ballots_in (map shown before) ++ vs) (append-nil (ballots_by e))
+  ballots_more = ap ballots_in (map-append shown before (e ∷ [])) ∙ flat_map-append (λ (x : Plain). x.sealed) (map shown before) (shown e ∷ [])
+      ∙ ap (λ (vs : List Ballot). ballots_in (map shown before) ++ vs) (append-nil (ballots_by e))
 
   pub marks_more : marks_in (sealed_in (up_to before e)) ≡ marks_in (sealed_in before) ++ marks_in e.turned.sealed
   marks_more =
-      ap marks_in (flat_map-append (λ (x : Entry). x.turned.sealed) before (e ∷ []) ∙ ap (λ (ss : List (List ℕ)). sealed_in before ++ ss) (append-nil e.turned.sealed))
+      ap marks_in (flat_map-append (λ (x : Entry). x.turned.sealed) before (e ∷ [])
+      ∙ ap (λ (ss : List (List ℕ)). sealed_in before ++ ss) (append-nil e.turned.sealed))
       ∙ filter_map-append mark_of (sealed_in before) e.turned.sealed
 
   -- ---- rule 1
@@ -116,12 +119,16 @@ module _ (by : Scale) (before : List Entry) (j : Audited) (stands : Stands by be
   rises_reported =
       ap (λ (v : ℕ). rises_from v j.safety.voted (ballots_by e)) (at_view j.store j.safety.lock (lock_in by.setting before) stands.ties.safe_tied.at_lock)
       ∙ same_from_decides
-      {P = AllPairs (λ earlier later. earlier.view < later.view) (ballots_in (map shown before) ++ ballots_by e) × All (λ v. (lock_in by.setting before).view < v.view) (ballots_by e)}
+      {P = AllPairs (λ earlier later. earlier.view < later.view) (ballots_in (map shown before) ++ ballots_by e)
+      × All (λ v. (lock_in by.setting before).view < v.view) (ballots_by e)}
       (rises_from (lock_in by.setting before).view j.safety.voted (ballots_by e)) (rises by before e)
       (rises_show (lock_in by.setting before).view j.safety.voted (ballots_in (map shown before)) (ballots_by e) stands.voted stands.rise)
-      (subst (λ (vs : List Ballot). Decides (rises by before e) (AllPairs (λ earlier later. earlier.view < later.view) vs × All (λ v. (lock_in by.setting before).view < v.view) (ballots_by e))) ballots_more four)
+      (subst (λ (vs : List Ballot). Decides (rises by before e)
+      (AllPairs (λ earlier later. earlier.view < later.view) vs × All (λ v. (lock_in by.setting before).view < v.view) (ballots_by e)))
+      ballots_more four)
     where
-      four : Decides (rises by before e) (AllPairs (λ earlier later. earlier.view < later.view) (ballots_in (map shown (up_to before e))) × All (λ v. (lock_in by.setting before).view < v.view) (ballots_by e))
+      four : Decides (rises by before e) (AllPairs (λ earlier later. earlier.view < later.view) (ballots_in (map shown (up_to before e)))
+          × All (λ v. (lock_in by.setting before).view < v.view) (ballots_by e))
       four = restate (rises by before e) (fourth_shows by before e) (λ r. (r.rise, r.above_lock)) (λ p. record { rise = p.0; above_lock = p.1 })
 
   -- ---- rule 2
@@ -132,7 +139,8 @@ module _ (by : Scale) (before : List Entry) (j : Audited) (stands : Stands by be
       (are_new j.marks (marks_in e.turned.sealed)) (are_apart (marks_in (sealed_in (up_to before e))))
       (marks_show j.marks (marks_in (sealed_in before)) (marks_in e.turned.sealed) stands.marks stands.apart)
       (subst (λ (ms : List Mark). Decides (are_apart ms) (AllPairs (λ a b. a ≢ b) (marks_in (sealed_in before) ++ marks_in e.turned.sealed))) (sym marks_more)
-      (pairs_decide (λ (a b : Mark). not (mark_eq a b)) (λ a b. a ≢ b) (λ a b. Decides-not (mark_eq a b) (mark_decides a b)) (marks_in (sealed_in before) ++ marks_in e.turned.sealed)))
+      (pairs_decide (λ (a b : Mark). not (mark_eq a b)) (λ a b. a ≢ b) (λ a b. Decides-not (mark_eq a b) (mark_decides a b))
+      (marks_in (sealed_in before) ++ marks_in e.turned.sealed)))
 
   -- a certificate of a stored block
   cert_reported : (c : Cert) → cert_on by.fits (stored_of j) c ≡ (is_good by.fits by.setting c && is_stored_at (stored_in before) c.block c.view)
@@ -144,27 +152,35 @@ module _ (by : Scale) (before : List Entry) (j : Audited) (stands : Stands by be
   module _ (one_more : StandsForOneMore) where
     -- the orders of a block, each test separately
     orders_reported : (b : Block) → list_all (order_on by.fits (stored_of j) b) b.orders ≡
-        (list_all (λ sealed. (sealed.order.view == b.view) && (digest_eq sealed.order.parent b.cert.block && nat_lt sealed.order.replica by.setting.n)) b.orders && list_all (is_sealed by.fits) b.orders)
+        (list_all (λ sealed. (sealed.order.view == b.view) && (digest_eq sealed.order.parent b.cert.block && nat_lt sealed.order.replica by.setting.n)) b.orders
+        && list_all (is_sealed by.fits) b.orders)
     orders_reported b =
         ap (λ (s : Parameters). list_all (order_on by.fits (record { setting = s; blocks = j.store }) b) b.orders) stands.setting
-        ∙ all_both (λ sealed. (sealed.order.view == b.view) && (digest_eq sealed.order.parent b.cert.block && nat_lt sealed.order.replica by.setting.n)) (is_sealed by.fits) b.orders
+        ∙ all_both (λ sealed. (sealed.order.view == b.view) && (digest_eq sealed.order.parent b.cert.block && nat_lt sealed.order.replica by.setting.n))
+        (is_sealed by.fits) b.orders
 
     abbrev lists_on : Standings → Block → Bool
     lists_on c b = list_all (λ sealed. fits_chain c sealed.order) b.orders
 
     valid_reported : (b : Block) → valid_on by.fits (stored_of j) b ≡ is_valid_in by before b
     valid_reported b =
-        ap (λ (s : Parameters). (nat_lt b.cert.view b.view && ((length b.orders == quorum_of s) && (cert_on by.fits (stored_of j) b.cert && list_all (order_on by.fits (stored_of j) b) b.orders)))
+        ap (λ (s : Parameters). (nat_lt b.cert.view b.view
+        && ((length b.orders == quorum_of s) && (cert_on by.fits (stored_of j) b.cert && list_all (order_on by.fits (stored_of j) b) b.orders)))
         && lists_on (chain_state_of (record { setting = s; blocks = j.store }) b.cert.block) b) stands.setting
-        ∙ ap (λ (t : Bool). (nat_lt b.cert.view b.view && ((length b.orders == quorum_of by.setting) && (t && list_all (order_on by.fits (stored_of j) b) b.orders)))
+        ∙ ap (λ (t : Bool).
+        (nat_lt b.cert.view b.view && ((length b.orders == quorum_of by.setting) && (t && list_all (order_on by.fits (stored_of j) b) b.orders)))
         && lists_on (chain_state_of (record { setting = by.setting; blocks = j.store }) b.cert.block) b) (cert_reported b.cert)
-        ∙ ap (λ (t : Bool). (nat_lt b.cert.view b.view && ((length b.orders == quorum_of by.setting) && ((is_good by.fits by.setting b.cert && is_stored_at (stored_in before) b.cert.block b.cert.view) && t)))
+        ∙ ap (λ (t : Bool). (nat_lt b.cert.view b.view && ((length b.orders == quorum_of by.setting)
+        && ((is_good by.fits by.setting b.cert && is_stored_at (stored_in before) b.cert.block b.cert.view) && t)))
         && lists_on (chain_state_of (record { setting = by.setting; blocks = j.store }) b.cert.block) b) (orders_reported b)
-        ∙ in_order (nat_lt b.cert.view b.view) (length b.orders == quorum_of by.setting) (is_good by.fits by.setting b.cert) (is_stored_at (stored_in before) b.cert.block b.cert.view)
-        (list_all (λ sealed. (sealed.order.view == b.view) && (digest_eq sealed.order.parent b.cert.block && nat_lt sealed.order.replica by.setting.n)) b.orders) (list_all (is_sealed by.fits) b.orders)
+        ∙ in_order (nat_lt b.cert.view b.view) (length b.orders == quorum_of by.setting) (is_good by.fits by.setting b.cert)
+        (is_stored_at (stored_in before) b.cert.block b.cert.view)
+        (list_all (λ sealed. (sealed.order.view == b.view) && (digest_eq sealed.order.parent b.cert.block && nat_lt sealed.order.replica by.setting.n))
+        b.orders) (list_all (is_sealed by.fits) b.orders)
         (lists_on (chain_state_of (record { setting = by.setting; blocks = j.store }) b.cert.block) b) (lists_on (standing_at by.setting before b.cert.block) b)
         (λ is.
-        let n = found_when j.store before stands.ties.safe_tied.stores b.cert.block b.cert.view (view_shows j.store before stands.ties.safe_tied.stores b.cert.block b.cert.view ∙ is) in
+        let n = found_when j.store before stands.ties.safe_tied.stores b.cert.block b.cert.view
+        (view_shows j.store before stands.ties.safe_tied.stores b.cert.block b.cert.view ∙ is) in
         ap (λ (c : Standings). lists_on c b) (state_shows j.store before stands.ties.safe_tied.stores one_more by.setting stands.ties.led b.cert.block n.0 n.1))
 
     pub may_reported : (m : Option MessageView) → may_on by.fits (stored_of j) m ≡ may_be_done by before m
@@ -174,20 +190,27 @@ module _ (by : Scale) (before : List Entry) (j : Audited) (stands : Stands by be
     may_reported (Some (Order sealed)) = refl
     may_reported (Some (Propose proposed)) = valid_reported proposed.block
     may_reported (Some (Vote voted)) =
-        ap (λ (s : Parameters). nat_lt voted.vote.replica s.n && (has_view j.store voted.vote.block voted.vote.view && by.fits voted.vote.replica (vote_spelling voted.vote.replica voted.vote.view voted.vote.block) voted.vote.seal)) stands.setting
-        ∙ ap (λ (t : Bool). nat_lt voted.vote.replica by.setting.n && (t && by.fits voted.vote.replica (vote_spelling voted.vote.replica voted.vote.view voted.vote.block) voted.vote.seal))
+        ap (λ (s : Parameters). nat_lt voted.vote.replica s.n && (has_view j.store voted.vote.block voted.vote.view
+        && by.fits voted.vote.replica (vote_spelling voted.vote.replica voted.vote.view voted.vote.block) voted.vote.seal))
+        stands.setting
+        ∙ ap (λ (t : Bool). nat_lt voted.vote.replica by.setting.n
+        && (t && by.fits voted.vote.replica (vote_spelling voted.vote.replica voted.vote.view voted.vote.block) voted.vote.seal))
         (view_shows j.store before stands.ties.safe_tied.stores voted.vote.block voted.vote.view)
-        ∙ ap (λ (t : Bool). nat_lt voted.vote.replica by.setting.n && t) (and_comm (is_stored_at (stored_in before) voted.vote.block voted.vote.view) (by.fits voted.vote.replica (vote_spelling voted.vote.replica voted.vote.view voted.vote.block) voted.vote.seal))
+        ∙ ap (λ (t : Bool). nat_lt voted.vote.replica by.setting.n && t)
+        (and_comm (is_stored_at (stored_in before) voted.vote.block voted.vote.view)
+        (by.fits voted.vote.replica (vote_spelling voted.vote.replica voted.vote.view voted.vote.block) voted.vote.seal))
     may_reported (Some (Fetch block)) = refl
     may_reported (Some (Give block)) = valid_reported block
 
   block_alone : (b : Block) → not (clashes j.store (block_digest b) b) ≡ stands_alone before (Some (named b))
   block_alone b =
-      same_from_decides {P = StandsAlone before (named b)} (not (clashes j.store (block_digest b) b)) (stands_alone before (Some (named b))) (alone_shows j.store before stands.ties.safe_tied.stores b)
+      same_from_decides {P = StandsAlone before (named b)} (not (clashes j.store (block_digest b) b)) (stands_alone before (Some (named b)))
+      (alone_shows j.store before stands.ties.safe_tied.stores b)
       (restate (stands_alone before (Some (named b))) (alone_decides before (Some (named b))) (λ each. each (named b) refl)
       (λ alone c is. subst (StandsAlone before) (same_Some (named b) c is) alone))
 
-  pub alone_reported : (done : Bool) (m : Option MessageView) → alone_on j.store (carried_if done m) ≡ stands_alone before (if done then block_named_in (shown_message m) else None)
+  pub alone_reported : (done : Bool) (m : Option MessageView)
+      → alone_on j.store (carried_if done m) ≡ stands_alone before (if done then block_named_in (shown_message m) else None)
   alone_reported false m = refl
   alone_reported true None = refl
   alone_reported true (Some (NewView call)) = refl
@@ -202,7 +225,8 @@ module _ (by : Scale) (before : List Entry) (j : Audited) (stands : Stands by be
 
   module _ (reach : (child ancestor : Digest) → is_stored j.store child ≡ true → Extends j.store child ancestor → extends j.store child ancestor ≡ true) where
     pub safe_reported : (b : Block) (p : Named) → StandsAlone before (named b) → at j.store b.cert.block ≡ Some p
-        → Decides (is_safe j.store j.safety b) (ExtendsNamed (stored_in before) (named b) (lock_in by.setting before) ⊎ ((lock_in by.setting before).view < b.cert.view))
+        → Decides (is_safe j.store j.safety b)
+        (ExtendsNamed (stored_in before) (named b) (lock_in by.setting before) ⊎ ((lock_in by.setting before).view < b.cert.view))
     safe_reported b p alone at_parent =
         restate (is_safe j.store j.safety b)
         (Decides-or (nat_lt (view_at j.store j.safety.lock) b.cert.view) (extends j.store b.cert.block j.safety.lock || is_at j.store j.safety.lock b)

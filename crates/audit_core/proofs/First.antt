@@ -20,7 +20,8 @@ use Rattle.audit_core.specs.declared.unlawful.Unlawful.{Unlawful}
 use Rattle.audit_core.specs.Unlawful.{after_last, broken_in, number_of, unlawful_at, unlawful_in, first_of, first_unlawful_of, honest_in, AllObey, IsFirstUnlawful}
 
 module _ (none_found : (by : Scale) (journal : List Entry) → (first_broken by journal ≡ None) ↔ IsLawful by journal)
-    (some_found : (by : Scale) (journal : List Entry) (at : Place) → first_broken by journal ≡ Some at → BreaksFirst by journal at) (fits : Check) (run : RunRecord) where
+    (some_found : (by : Scale) (journal : List Entry) (at : Place) → first_broken by journal ≡ Some at → BreaksFirst by journal at)
+    (fits : Check) (run : RunRecord) where
   abbrev Says : ℕ → Option Place → Type 0
   Says r None = Obeys fits run r
   Says r (Some at) = Breaks fits run r at
@@ -63,11 +64,13 @@ module _ (none_found : (by : Scale) (journal : List Entry) → (first_broken by 
   Shows from n None = (r : ℕ) → from ≤ r → r < from + n → honest_in run r ≡ true → Obeys fits run r
   Shows from n (Some reported) =
       (from ≤ reported.replica) × (reported.replica < from + n) × (honest_in run reported.replica ≡ true)
-      × ((r : ℕ) → from ≤ r → r < reported.replica → honest_in run r ≡ true → Obeys fits run r) × (at : Place) × Breaks fits run reported.replica at × (reported.entry ≡ number_of at.entry) × (reported.rule ≡ at.rule)
+      × ((r : ℕ) → from ≤ r → r < reported.replica → honest_in run r ≡ true → Obeys fits run r) × (at : Place)
+      × Breaks fits run reported.replica at × (reported.entry ≡ number_of at.entry) × (reported.rule ≡ at.rule)
 
   shows_from : (n from : ℕ) → Shows from n (first_of (unlawful_in fits run) (range_with_len from n))
   shows_from zero from = λ r low high honest. absurd (omega (arith, low, high))
-  shows_from (suc n) from = one (honest_in run from) refl (broken_in fits run from) (broken_says from) (first_of (unlawful_in fits run) (range_with_len (from + 1) n)) (shows_from n (from + 1))
+  shows_from (suc n) from = one (honest_in run from) refl (broken_in fits run from) (broken_says from)
+      (first_of (unlawful_in fits run) (range_with_len (from + 1) n)) (shows_from n (from + 1))
     where
       here_or_later : (r : ℕ) → from ≤ r → (from ≡ r) ⊎ (from + 1 ≤ r)
       here_or_later r low = elim (cases_lt from r) [
@@ -112,7 +115,15 @@ module _ (none_found : (by : Scale) (journal : List Entry) → (first_broken by 
   pub some_unlawful : (reported : Unlawful) → first_unlawful_of fits run ≡ Some reported → IsFirstUnlawful fits run reported
   some_unlawful reported is =
       let t = subst (Shows 0 run.setting.n) is shows_all in
-      record { below = omega (arith, t.1); honest = t.2; lesser = λ r less honest. t.3 r (omega arith) less honest; at = t.4; breaks = t.5; entry = t.6; rule = t.7 }
+      record {
+        below = omega (arith, t.1);
+        honest = t.2;
+        lesser = λ r less honest. t.3 r (omega arith) less honest;
+        at = t.4;
+        breaks = t.5;
+        entry = t.6;
+        rule = t.7;
+      }
 
   breaks_not_obeys : (r : ℕ) (at : Place) → Obeys fits run r → Breaks fits run r at → ⊥
   breaks_not_obeys r at obeys (inl first) = lawful_breaks_nothing (scale_of fits run r) (journal_in run r) at obeys.journal first

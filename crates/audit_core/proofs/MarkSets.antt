@@ -22,7 +22,8 @@ use Rattle.audit_core.specs.Sets.{digest_cmp, pair_cmp, has_mark, with_mark, vot
 -- ---- marks
 
 at_mark : (m n : Mark) → is_eq (pair_cmp (m.kind, m.view) (n.kind, n.view)) ≡ mark_eq m n
-at_mark m n = sym (both_tied (m.kind == n.kind) (m.view == n.view) (nat_cmp m.kind n.kind) (nat_cmp m.view n.view) (unsigned_ties m.kind n.kind) (unsigned_ties m.view n.view))
+at_mark m n = sym (both_tied (m.kind == n.kind) (m.view == n.view) (nat_cmp m.kind n.kind) (nat_cmp m.view n.view)
+    (unsigned_ties m.kind n.kind) (unsigned_ties m.view n.view))
 
 mark_sym : (m n : Mark) → mark_eq m n ≡ mark_eq n m
 mark_sym m n = by (mark_eq m n) (mark_eq n m) refl refl
@@ -53,9 +54,11 @@ one_mark_more (x ∷ met) m n = by (pair_cmp (m.kind, m.view) x) refl (one_mark_
     by Equal is on =
         let same : mark_eq m (mark x.0 x.1) ≡ true = sym (at_mark m (mark x.0 x.1)) ∙ ap is_eq is in
         let eq : m ≡ mark x.0 x.1 = (mark_decides m (mark x.0 x.1)).0 same in
-        let here : is_at (pair_cmp (n.kind, n.view)) x ≡ mark_eq m n = at_mark n (mark x.0 x.1) ∙ mark_sym n (mark x.0 x.1) ∙ ap (λ (k : Mark). mark_eq k n) (sym eq) in
+        let here : is_at (pair_cmp (n.kind, n.view)) x ≡ mark_eq m n = at_mark n (mark x.0 x.1) ∙ mark_sym n (mark x.0 x.1)
+        ∙ ap (λ (k : Mark). mark_eq k n) (sym eq) in
         ap (λ (t : Bool). t || has_mark met n) here ∙ twice (mark_eq m n) (has_mark met n) ∙ ap (λ (t : Bool). mark_eq m n || (t || has_mark met n)) (sym here)
-    by Greater is on = ap (λ (t : Bool). is_at (pair_cmp (n.kind, n.view)) x || t) on ∙ or_swap (is_at (pair_cmp (n.kind, n.view)) x) (mark_eq m n) (has_mark met n)
+    by Greater is on = ap (λ (t : Bool). is_at (pair_cmp (n.kind, n.view)) x || t) on
+        ∙ or_swap (is_at (pair_cmp (n.kind, n.view)) x) (mark_eq m n) (has_mark met n)
 
 -- ---- voters
 
@@ -78,7 +81,8 @@ found (e ∷ entries) block d voters = by (digest_cmp block e.0) refl (found ent
     apart false true a b p never = refl
     apart false false a b p never = refl
 
-    by : (o : Ordering) → digest_cmp block e.0 ≡ o → lookup (is_at (digest_cmp d)) (with_voters block voters entries) ≡ (if digest_eq d block then Some voters else lookup (is_at (digest_cmp d)) entries)
+    by : (o : Ordering) → digest_cmp block e.0 ≡ o → lookup (is_at (digest_cmp d)) (with_voters block voters entries)
+        ≡ (if digest_eq d block then Some voters else lookup (is_at (digest_cmp d)) entries)
         → lookup (is_at (digest_cmp d)) (match_ordering o ((block, voters) ∷ e ∷ entries) ((e.0, voters) ∷ entries) (e ∷ with_voters block voters entries))
         ≡ (if digest_eq d block then Some voters else lookup (is_at (digest_cmp d)) (e ∷ entries))
     by Less is on = ap (λ (t : Bool). cond t (Some voters) (lookup (is_at (digest_cmp d)) (e ∷ entries))) (at_digest d block)
@@ -86,7 +90,8 @@ found (e ∷ entries) block d voters = by (digest_cmp block e.0) refl (found ent
         let same : digest_eq block e.0 ≡ true = sym (at_digest block e.0) ∙ ap is_eq is in
         let eq : block ≡ e.0 = (digest_eq_decides block e.0).0 same in
         let here : is_at (digest_cmp d) e.0 ≡ digest_eq d block = at_digest d e.0 ∙ ap (digest_eq d) (sym eq) in
-        ap (λ (t : Bool). cond t (Some voters) (lookup (is_at (digest_cmp d)) entries)) here ∙ kept (digest_eq d block) (Some voters) e.1 (lookup (is_at (digest_cmp d)) entries)
+        ap (λ (t : Bool). cond t (Some voters) (lookup (is_at (digest_cmp d)) entries)) here
+        ∙ kept (digest_eq d block) (Some voters) e.1 (lookup (is_at (digest_cmp d)) entries)
         ∙ ap (λ (t : Bool). if digest_eq d block then Some voters else cond t (Some e.1) (lookup (is_at (digest_cmp d)) entries)) (sym here)
     by Greater is on = ap (λ (o : Option (List ℕ)). cond (is_at (digest_cmp d) e.0) (Some e.1) o) on
         ∙ apart (is_at (digest_cmp d) e.0) (digest_eq d block) (Some e.1) (Some voters) (lookup (is_at (digest_cmp d)) entries)

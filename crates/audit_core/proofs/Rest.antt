@@ -26,7 +26,8 @@ use Rattle.audit_core.specs.Voting.{votes_in}
 -- ---- votes
 
 -- each vote, and each statement that is one
-pub all_votes : (test : Ballot → Bool) (statements : List (List ℕ)) → list_all (λ x. option_map_or test (ballot_in x) true) statements ≡ list_all test (votes_in statements)
+pub all_votes : (test : Ballot → Bool) (statements : List (List ℕ))
+    → list_all (λ x. option_map_or test (ballot_in x) true) statements ≡ list_all test (votes_in statements)
 all_votes test [] = refl
 all_votes test (x ∷ rest) = by (ballot_in x) refl (all_votes test rest)
   where
@@ -48,7 +49,8 @@ four_bytes (a ∷ b ∷ c ∷ d ∷ e ∷ []) = refl
 four_bytes (a ∷ b ∷ c ∷ d ∷ e ∷ f ∷ xs) = refl
 
 -- its kind, or 0, decides what it is
-pub mark_is : (xs : List ℕ) → mark_of xs ≡ (if nat_le NEW_VIEW (get_or xs 0 0) && nat_le (get_or xs 0 0) VOTE then Some (mark (get_or xs 0 0) (view_named xs)) else None)
+pub mark_is : (xs : List ℕ) → mark_of xs
+    ≡ (if nat_le NEW_VIEW (get_or xs 0 0) && nat_le (get_or xs 0 0) VOTE then Some (mark (get_or xs 0 0) (view_named xs)) else None)
 mark_is [] = refl
 mark_is (x ∷ xs) = refl
 
@@ -80,13 +82,16 @@ too_short list rest few = by (pointwise tx_eq list (take (length list) rest)) re
 
 -- If a list continues the arrivals, as many are known as arrived, and no more than there are.
 pub kept_sum : (arrivals : List Tx) (from kept : ℕ) (list : List Tx) → goes_on arrivals from kept list ≡ true → kept ≡ from + length list
-kept_sum arrivals from kept list is = (unsigned_Decides kept (from + length list)).0 (and_parts (kept == from + length list) (pointwise tx_eq list (take (length list) (drop from arrivals))) is).0
+kept_sum arrivals from kept list is = (unsigned_Decides kept (from + length list)).0
+    (and_parts (kept == from + length list) (pointwise tx_eq list (take (length list) (drop from arrivals))) is).0
 
-pub kept_within : (arrivals : List Tx) (from kept : ℕ) (list : List Tx) → goes_on arrivals from kept list ≡ true → from ≤ length arrivals → kept ≤ length arrivals
+pub kept_within : (arrivals : List Tx) (from kept : ℕ) (list : List Tx) → goes_on arrivals from kept list ≡ true → from ≤ length arrivals
+    → kept ≤ length arrivals
 kept_within arrivals from kept list is low =
     let sum = kept_sum arrivals from kept list is in
     let same : list ≡ take (length list) (drop from arrivals) =
-    (pointwise_decides tx_eq_decides list (take (length list) (drop from arrivals))).0 (and_parts (kept == from + length list) (pointwise tx_eq list (take (length list) (drop from arrivals))) is).1 in
+    (pointwise_decides tx_eq_decides list (take (length list) (drop from arrivals))).0
+    (and_parts (kept == from + length list) (pointwise tx_eq list (take (length list) (drop from arrivals))) is).1 in
     let count : length list ≡ length (take (length list) (drop from arrivals)) = ap (λ (ts : List Tx). length ts) same in
     omega (arith, sum, low, count, length-take (length list) (drop from arrivals), length-drop from arrivals)
 

@@ -32,7 +32,8 @@ use Rattle.audit_core.proofs.Composed.{after_steps, breaks_first, breaks_second,
 
 -- ---- blocks
 
-pub valid_lists : (fits : Check) (s : Stored) (b c : Block) (orders : List SealedOrder) {E : Type 0} (r : Result Bool E) → b ≡ c → orders ≡ b.orders → true ≡ shaped_on fits s c
+pub valid_lists : (fits : Check) (s : Stored) (b c : Block) (orders : List SealedOrder) {E : Type 0} (r : Result Bool E) → b ≡ c
+    → orders ≡ b.orders → true ≡ shaped_on fits s c
     → IfOk r (λ fit. fit ≡ list_all (λ sealed. fits_chain (chain_state_of s b.cert.block) sealed.order) orders) → IfOk r (λ valid. valid ≡ valid_on fits s c)
 valid_lists fits s b c orders (Ok fit) same list shaped is =
     is
@@ -50,24 +51,29 @@ module _ (fits : Check) (s : Stored) (c : Block) where
 
   clash_is : (b : Block) (d : Digest) (store : List Block) → Same b d store → clashes store d b ≡ clashes s.blocks (block_digest c) c
   clash_is b d store same =
-      ap (λ (x : Block). clashes store d x) same.0 ∙ ap (λ (e : Digest). clashes store e c) same.1 ∙ ap (λ (bs : List Block). clashes bs (block_digest c) c) same.2
+      ap (λ (x : Block). clashes store d x) same.0 ∙ ap (λ (e : Digest). clashes store e c) same.1
+      ∙ ap (λ (bs : List Block). clashes bs (block_digest c) c) same.2
 
-  pub block_clashes : (proposed : Bool) (b : Block) (d : Digest) (store : List Block) → b ≡ c → d ≡ block_digest c → store ≡ s.blocks → clashes store d b ≡ true → None ≡ block_from fits s c proposed
-  block_clashes proposed b d store is_b is_d is_s yes_clash = none (valid_on fits s c) (clashes s.blocks (block_digest c) c) (sym (clash_is b d store (is_b, is_d, is_s)) ∙ yes_clash)
+  pub block_clashes : (proposed : Bool) (b : Block) (d : Digest) (store : List Block) → b ≡ c → d ≡ block_digest c → store ≡ s.blocks
+      → clashes store d b ≡ true → None ≡ block_from fits s c proposed
+  block_clashes proposed b d store is_b is_d is_s yes_clash =
+      none (valid_on fits s c) (clashes s.blocks (block_digest c) c) (sym (clash_is b d store (is_b, is_d, is_s)) ∙ yes_clash)
     where
       none : (t u : Bool) → u ≡ true → None ≡ (if t && not u then Some (carried.Block (block_digest c) c proposed) else None)
       none true true is = refl
       none false true is = refl
       none t false is = absurd (cc)
 
-  pub block_carried : (proposed : Bool) (b : Block) (d : Digest) (store : List Block) → b ≡ c → d ≡ block_digest c → store ≡ s.blocks → valid_on fits s c ≡ true → clashes store d b ≡ false
+  pub block_carried : (proposed : Bool) (b : Block) (d : Digest) (store : List Block) → b ≡ c → d ≡ block_digest c → store ≡ s.blocks
+      → valid_on fits s c ≡ true → clashes store d b ≡ false
       → Some (carried.Block d b proposed) ≡ block_from fits s c proposed
   block_carried proposed b d store is_b is_d is_s valid alone =
       ap (λ (e : Digest). Some (carried.Block e b proposed)) is_d
       ∙ ap (λ (x : Block). Some (carried.Block (block_digest c) x proposed)) is_b
       ∙ some (valid_on fits s c) (clashes s.blocks (block_digest c) c) valid (sym (clash_is b d store (is_b, is_d, is_s)) ∙ alone)
     where
-      some : (t u : Bool) → t ≡ true → u ≡ false → Some (carried.Block (block_digest c) c proposed) ≡ (if t && not u then Some (carried.Block (block_digest c) c proposed) else None)
+      some : (t u : Bool) → t ≡ true → u ≡ false → Some (carried.Block (block_digest c) c proposed)
+          ≡ (if t && not u then Some (carried.Block (block_digest c) c proposed) else None)
       some true false yes_t not_u = refl
       some true true yes_t not_u = absurd (cc)
       some false u yes_t not_u = absurd (cc)
@@ -81,12 +87,15 @@ module _ (fits : Check) (s : Stored) (c : Block) where
       by false (Some b) is = refl
       by false None is = absurd (cc)
 
-  pub block_taken : (b : Block) (d : Digest) (store : List Block) → b ≡ c → d ≡ block_digest c → store ≡ s.blocks → valid_on fits s c ≡ true → clashes store d b ≡ false → IsWithin b
+  pub block_taken : (b : Block) (d : Digest) (store : List Block) → b ≡ c → d ≡ block_digest c → store ≡ s.blocks → valid_on fits s c ≡ true
+      → clashes store d b ≡ false → IsWithin b
       → IsWithin b × (d ≡ block_digest b) × (is_stored s.blocks b.cert.block ≡ true) × (clashes s.blocks d b ≡ false)
   block_taken b d store is_b is_d is_s valid alone within = (
     within,
     is_d ∙ ap block_digest (sym is_b),
-    ap (λ (x : Block). is_stored s.blocks x.cert.block) is_b ∙ stored_there c.cert.block c.cert.view (and_parts (has_view s.blocks c.cert.block c.cert.view) _ (and_parts _ _ (and_parts _ _ (and_parts _ _ (and_parts _ _ valid).0).1).1).0).0,
+    ap (λ (x : Block). is_stored s.blocks x.cert.block) is_b
+        ∙ stored_there c.cert.block c.cert.view
+        (and_parts (has_view s.blocks c.cert.block c.cert.view) _ (and_parts _ _ (and_parts _ _ (and_parts _ _ (and_parts _ _ valid).0).1).1).0).0,
     ap (λ (bs : List Block). clashes bs d b) (sym is_s) ∙ alone,
   )
 
@@ -98,16 +107,20 @@ not_idle fits j e fails_so = rw fails_so refl
 pub not_own : (fits : Check) (j : Audited) (e : Entry) → is_idle e ≡ true → are_own j.replica e.turned.sealed ≡ false → None ≡ taken_on fits j e
 not_own fits j e idle fails_so = rw (idle, fails_so) refl
 
-pub not_new : (fits : Check) (j : Audited) (e : Entry) → is_idle e ≡ true → are_own j.replica e.turned.sealed ≡ true → are_new j.marks (marks_in e.turned.sealed) ≡ false → None ≡ taken_on fits j e
+pub not_new : (fits : Check) (j : Audited) (e : Entry) → is_idle e ≡ true → are_own j.replica e.turned.sealed ≡ true
+    → are_new j.marks (marks_in e.turned.sealed) ≡ false → None ≡ taken_on fits j e
 not_new fits j e idle own fails_so = rw (idle, own, fails_so) refl
 
 -- all three hold, and the marks are added: the answer is whether the entry may deliver
-pub takes_as : (fits : Check) (j k : Audited) (e : Entry) {E : Type 0} (r : Result (Option Carried) E) → is_idle e ≡ true → are_own j.replica e.turned.sealed ≡ true → are_new j.marks (marks_in e.turned.sealed) ≡ true
-    → k ≡ record j { marks = marked j.marks (marks_in e.turned.sealed) } → IfOk r (λ found. found ≡ carried_on fits (stored_of k) e) → IfOk r (λ found. found ≡ taken_on fits j e)
+pub takes_as : (fits : Check) (j k : Audited) (e : Entry) {E : Type 0} (r : Result (Option Carried) E) → is_idle e ≡ true
+    → are_own j.replica e.turned.sealed ≡ true → are_new j.marks (marks_in e.turned.sealed) ≡ true
+    → k ≡ record j { marks = marked j.marks (marks_in e.turned.sealed) } → IfOk r (λ found. found ≡ carried_on fits (stored_of k) e)
+    → IfOk r (λ found. found ≡ taken_on fits j e)
 takes_as fits j k e (Ok found) idle own new same is = is ∙ ap (λ (x : Audited). carried_on fits (stored_of x) e) same ∙ rw (idle, own, new) refl
 takes_as fits j k e (Err fault) idle own new same is = tt
 
-pub takes_from : (j k : Audited) (ms : List (ℕ × ℕ)) {E : Type 0} (r : Result (Option Carried) E) → k ≡ record j { marks = ms } → IfOk r (λ found. IfSome found (MayTake k.store)) → IfOk r (λ found. IfSome found (MayTake j.store))
+pub takes_from : (j k : Audited) (ms : List (ℕ × ℕ)) {E : Type 0} (r : Result (Option Carried) E) → k ≡ record j { marks = ms }
+    → IfOk r (λ found. IfSome found (MayTake k.store)) → IfOk r (λ found. IfSome found (MayTake j.store))
 takes_from j k ms (Ok (Some b)) same is = subst (λ (x : Audited). MayTake x.store b) same is
 takes_from j k ms (Ok None) same is = tt
 takes_from j k ms (Err fault) same is = tt
@@ -155,7 +168,8 @@ module _ (j k end : Audited) (e : Entry) (b : Carried) (voted : k ≡ record j {
   pub no_rule : Three true → true ≡ rises_on j e → Five true → None ≡ sealed_rule j e b
   no_rule drawn rises votes = rw (sym (drawn ∙ three_is), sym rises, sym (votes ∙ five_is)) refl
 
-  pub sealed_next : k.safety.voted ≡ last_view j.safety.voted (ballots_by e) → end ≡ taken b (record j { safety = voted_in (last_view j.safety.voted (ballots_by e)) j.safety })
+  pub sealed_next : k.safety.voted ≡ last_view j.safety.voted (ballots_by e)
+      → end ≡ taken b (record j { safety = voted_in (last_view j.safety.voted (ballots_by e)) j.safety })
   sealed_next last = takes ∙ ap (taken b) voted ∙ ap (λ (v : ℕ). taken b (record j { safety = voted_in v j.safety })) last
 
 -- ---- all rules
@@ -165,7 +179,8 @@ module _ (fits : Check) (j : Audited) (e : Entry) where
   first_rule fails_so = sym (breaks_first fits j e (sym fails_so))
 
   -- the arrivals are known, and rule 2 is checked with them
-  module _ (k : Audited) (knows : true ≡ goes_on j.arrivals j.kept e.turned.kept (arrived_by e.event)) (kept : k ≡ record j { kept = j.kept + length (arrived_by e.event) }) where
+  module _ (k : Audited) (knows : true ≡ goes_on j.arrivals j.kept e.turned.kept (arrived_by e.event))
+      (kept : k ≡ record j { kept = j.kept + length (arrived_by e.event) }) where
     takes_same : takes_on fits k e ≡ takes_on fits j e
     takes_same = ap (λ (x : Audited). takes_on fits x e) kept
 
@@ -217,14 +232,18 @@ module _ (fits : Check) (j : Audited) (e : Entry) where
       next_is end is =
           is
           ∙ ap (λ (x : Audited). taken b (record x { safety = voted_in (last_view x.safety.voted (ballots_by e)) x.safety })) both
-          ∙ ap (λ (c : Carried). taken c (moved j (j.kept + length (arrived_by e.event)) (marked j.marks (marks_in e.turned.sealed)) (last_view j.safety.voted (ballots_by e)))) (holds (takes_on fits k e) takes).1
-          ∙ after_steps fits j e (j.kept + length (arrived_by e.event)) (marked j.marks (marks_in e.turned.sealed)) (last_view j.safety.voted (ballots_by e)) refl refl refl
+          ∙ ap (λ (c : Carried). taken c
+          (moved j (j.kept + length (arrived_by e.event)) (marked j.marks (marks_in e.turned.sealed)) (last_view j.safety.voted (ballots_by e))))
+          (holds (takes_on fits k e) takes).1
+          ∙ after_steps fits j e (j.kept + length (arrived_by e.event)) (marked j.marks (marks_in e.turned.sealed))
+          (last_view j.safety.voted (ballots_by e)) refl refl refl
 
       pub rule_ok : {E : Type 0} (r : Result (Option ℕ) E) → IfOk r (λ rule. rule ≡ sealed_rule m e b) → IfOk r (λ rule. rule ≡ rule_on fits j e)
       rule_ok (Ok rule) is = is ∙ rule_is
       rule_ok (Err fault) is = tt
 
-      pub next_ok : {E : Type 0} (r : Result (Option ℕ) E) (end : Audited) → IfOk r (λ rule. IfNone rule (end ≡ taken b (record m { safety = voted_in (last_view m.safety.voted (ballots_by e)) m.safety })))
+      pub next_ok : {E : Type 0} (r : Result (Option ℕ) E) (end : Audited)
+          → IfOk r (λ rule. IfNone rule (end ≡ taken b (record m { safety = voted_in (last_view m.safety.voted (ballots_by e)) m.safety })))
           → IfOk r (λ rule. IfNone rule (end ≡ next_on j e))
       next_ok (Ok None) end is = next_is end is
       next_ok (Ok (Some rule)) end is = tt

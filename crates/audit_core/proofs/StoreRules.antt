@@ -37,8 +37,10 @@ module _ (store : List Block) (before : List Entry) (tied : IsTied store (stored
           at_none false (Some b) is = absurd (cc)
 
       by : (o : Option Named) → at store d ≡ o → has_view store d v ≡ is_stored_at (stored_in before) d v
-      by None is = ap (λ (w : Option ℕ). option_map_or (λ x. x == v) w false) (none store d is) ∙ sym (ap (λ (o : Option Named). option_map_or (λ (b : Named). b.view == v) o false) (tied.same d ∙ is))
-      by (Some b) is = ap (λ (w : Option ℕ). option_map_or (λ x. x == v) w false) (view_found store d b is) ∙ sym (ap (λ (o : Option Named). option_map_or (λ (b : Named). b.view == v) o false) (tied.same d ∙ is))
+      by None is = ap (λ (w : Option ℕ). option_map_or (λ x. x == v) w false) (none store d is)
+          ∙ sym (ap (λ (o : Option Named). option_map_or (λ (b : Named). b.view == v) o false) (tied.same d ∙ is))
+      by (Some b) is = ap (λ (w : Option ℕ). option_map_or (λ x. x == v) w false) (view_found store d b is)
+          ∙ sym (ap (λ (o : Option Named). option_map_or (λ (b : Named). b.view == v) o false) (tied.same d ∙ is))
 
   -- the chain state of what is stored
   pub state_shows : StandsForOneMore → (s : Parameters) → StoreKept store → (d : Digest) (n : Named) → at store d ≡ Some n
@@ -49,12 +51,14 @@ module _ (store : List Block) (before : List Entry) (tied : IsTied store (stored
 
   -- ---- the voting rule
 
-  lead_by_digests : (steps : ℕ) (d to : Digest) (b a : Named) → at store d ≡ Some b → at store to ≡ Some a → Leads (stored_in before) steps b a → LeadsBy store steps d to
+  lead_by_digests : (steps : ℕ) (d to : Digest) (b a : Named) → at store d ≡ Some b → at store to ≡ Some a
+      → Leads (stored_in before) steps b a → LeadsBy store steps d to
   lead_by_digests zero d to b a found found_a same = sym (at_digest store d b found) ∙ ap (λ (n : Named). n.digest) same ∙ at_digest store to a found_a
   lead_by_digests (suc steps) d to b a found found_a leads =
       by (parent_of store d) refl (parent_same store (stored_in before) tied d b found) (λ e at_e. lead_by_digests steps e to leads.0 a at_e found_a leads.2)
     where
-      by : (o : Option Digest) → parent_of store d ≡ o → IsSame store (stored_in before) tied o (parent_in (stored_in before) b) → ((e : Digest) → at store e ≡ Some leads.0 → LeadsBy store steps e to)
+      by : (o : Option Digest) → parent_of store d ≡ o → IsSame store (stored_in before) tied o (parent_in (stored_in before) b)
+          → ((e : Digest) → at store e ≡ Some leads.0 → LeadsBy store steps e to)
           → LeadsBy store (suc steps) d to
       by None is same on = absurd (subst (IsSame store (stored_in before) tied None) leads.1 same)
       by (Some e) is same on = (e, is, on e (subst (IsSame store (stored_in before) tied (Some e)) leads.1 same))
@@ -70,14 +74,18 @@ module _ (store : List Block) (before : List Entry) (tied : IsTied store (stored
       let parts = parent_parts (stored_in before) (named b) leads.0 leads.1 in
       let both : Some p ≡ Some leads.0 = sym (tied.same b.cert.block ∙ at_parent) ∙ parts.1 in
       let one : p ≡ leads.0 = cc in
-      or_left (extends store b.cert.block s.lock) (is_at store s.lock b) (reach b.cert.block s.lock (found_stored store b.cert.block p at_parent)
-      (steps, lead_by_digests steps b.cert.block s.lock p locked at_parent at_lock (subst (λ (n : Named). Leads (stored_in before) steps n locked) (sym one) leads.2)))
+      or_left (extends store b.cert.block s.lock) (is_at store s.lock b) (reach b.cert.block s.lock (found_stored store b.cert.block p at_parent) (
+        steps,
+        lead_by_digests steps b.cert.block s.lock p locked at_parent at_lock (subst (λ (n : Named). Leads (stored_in before) steps n locked) (sym one) leads.2),
+      ))
 
-  pub safe_from : (s : Safe) (b : Block) (p locked : Named) → (block_digest b ≡ first_digest → ⊥) → at store s.lock ≡ Some locked → at store b.cert.block ≡ Some p
+  pub safe_from : (s : Safe) (b : Block) (p locked : Named) → (block_digest b ≡ first_digest → ⊥) → at store s.lock ≡ Some locked
+      → at store b.cert.block ≡ Some p
       → (extends store b.cert.block s.lock || is_at store s.lock b) ≡ true → ExtendsNamed (stored_in before) (named b) locked
   safe_from s b p locked other at_lock at_parent on = elim (or_cases (extends store b.cert.block s.lock) (is_at store s.lock b) on) [
     | inl following ↦
-        let steps = leads store (stored_in before) tied (length store) b.cert.block s.lock p locked at_parent at_lock (and_right (is_stored store b.cert.block) (reaches (length store) store b.cert.block s.lock) following) in
+        let steps = leads store (stored_in before) tied (length store) b.cert.block s.lock p locked at_parent at_lock
+        (and_right (is_stored store b.cert.block) (reaches (length store) store b.cert.block s.lock) following) in
         (suc steps.0, (p, parent_from (stored_in before) (named b) p other (tied.same b.cert.block ∙ at_parent), steps.1))
     | inr itself ↦ (0, is_lock (block_at store s.lock) refl itself)
   ]
@@ -105,7 +113,8 @@ module _ (store : List Block) (before : List Entry) (tied : IsTied store (stored
     where
       by : (o : Option Named) → at store d ≡ o → (n : Named) × (at store d ≡ Some n)
       by None none =
-          let never : is_stored_at (stored_in before) d v ≡ false = ap (λ (o : Option Named). option_map_or (λ (b : Named). b.view == v) o false) (tied.same d ∙ none) in
+          let never : is_stored_at (stored_in before) d v ≡ false =
+          ap (λ (o : Option Named). option_map_or (λ (b : Named). b.view == v) o false) (tied.same d ∙ none) in
           let said : true ≡ false = sym is ∙ view_shows d v ∙ never in
           absurd (cc)
       by (Some n) found = (n, found)

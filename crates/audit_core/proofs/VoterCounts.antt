@@ -29,11 +29,17 @@ with_more r (x ∷ xs) none = by (nat_lt r x) (r == x) refl (x == r) refl none (
     by false false is_u true is_w fresh on = absurd (cc)
     by false false is_u false is_w fresh on =
         let more : IsOneMore r xs (with_replica r xs) = on fresh in
-        record { one = (let c : length (with_replica r xs) ≡ length xs + 1 = more.one in omega (arith, c)); among = λ q. ap (λ (t : Bool). (x == q) || t) (more.among q) ∙ or_swap (x == q) (r == q) (is_among xs q) }
+        record {
+          one = (let c : length (with_replica r xs) ≡ length xs + 1 = more.one in omega (arith, c));
+          among = λ q. ap (λ (t : Bool). (x == q) || t) (more.among q) ∙ or_swap (x == q) (r == q) (is_among xs q);
+        }
 
-more_alike : (r : ℕ) (one other one_more other_more : List ℕ) → AreAlike one other → IsOneMore r one one_more → IsOneMore r other other_more → AreAlike one_more other_more
+more_alike : (r : ℕ) (one other one_more other_more : List ℕ) → AreAlike one other → IsOneMore r one one_more → IsOneMore r other other_more
+    → AreAlike one_more other_more
 more_alike r one other one_more other_more same a b = record {
-  count = (let c : length one ≡ length other = same.count in let d : length one_more ≡ length one + 1 = a.one in let e : length other_more ≡ length other + 1 = b.one in omega (arith, c, d, e));
+  count =
+      (let c : length one ≡ length other = same.count in let d : length one_more ≡ length one + 1 = a.one in
+      let e : length other_more ≡ length other + 1 = b.one in omega (arith, c, d, e));
   among = λ q. a.among q ∙ ap (λ (t : Bool). (r == q) || t) (same.among q) ∙ sym (b.among q);
 }
 
@@ -46,17 +52,21 @@ module _ (prefix : List Plain) (x : Plain) (votes : Digest → List ℕ) (tied :
   votes_still none unstored =
       let blocks : stored (prefix ++ x ∷ []) ≡ stored prefix = stored_same prefix x unstored in
       record {
-        same = λ d b at. subst (λ (vs : List ℕ). AreAlike (votes d) vs) (sym (voters_same b.view d prefix x (none b.view d))) (tied.same d b (subst (λ (bs : List Named). block_at bs d ≡ Some b) blocks at));
+        same = λ d b at. subst (λ (vs : List ℕ). AreAlike (votes d) vs) (sym (voters_same b.view d prefix x (none b.view d)))
+            (tied.same d b (subst (λ (bs : List Named). block_at bs d ≡ Some b) blocks at));
         none = λ d at. tied.none d (subst (λ (bs : List Named). block_at bs d ≡ None) blocks at);
-        elsewhere = λ d v out. voters_same v d prefix x (none v d) ∙ tied.elsewhere d v (λ b at. out b (subst (λ (bs : List Named). block_at bs d ≡ Some b) (sym blocks) at));
+        elsewhere = λ d v out. voters_same v d prefix x (none v d)
+            ∙ tied.elsewhere d v (λ b at. out b (subst (λ (bs : List Named). block_at bs d ≡ Some b) (sym blocks) at));
       }
 
   -- an entry that stores a block
   pub votes_block : (n : Named) → ((v : ℕ) (d : Digest) → voter_by v d x ≡ None) → stored_by x ≡ Some n → VotesTied (prefix ++ x ∷ []) votes
   votes_block n none stores = record {
-    same = λ d b at. subst (λ (vs : List ℕ). AreAlike (votes d) vs) (sym (voters_same b.view d prefix x (none b.view d))) (old_or_new d b (block_at (stored prefix) d) refl (split d ∙ at));
+    same = λ d b at. subst (λ (vs : List ℕ). AreAlike (votes d) vs) (sym (voters_same b.view d prefix x (none b.view d)))
+        (old_or_new d b (block_at (stored prefix) d) refl (split d ∙ at));
     none = λ d at. tied.none d (first_none (block_at (stored prefix) d) _ (split d ∙ at));
-    elsewhere = λ d v out. voters_same v d prefix x (none v d) ∙ tied.elsewhere d v (λ b at. out b (sym (split d) ∙ ap (λ (o : Option Named). option_or o (cond (digest_eq n.digest d) (Some n) None)) at));
+    elsewhere = λ d v out. voters_same v d prefix x (none v d) ∙ tied.elsewhere d v
+        (λ b at. out b (sym (split d) ∙ ap (λ (o : Option Named). option_or o (cond (digest_eq n.digest d) (Some n) None)) at));
   }
     where
       split : (d : Digest) → option_or (block_at (stored prefix) d) (cond (digest_eq n.digest d) (Some n) None) ≡ block_at (stored (prefix ++ x ∷ [])) d
@@ -66,9 +76,11 @@ module _ (prefix : List Plain) (x : Plain) (votes : Digest → List ℕ) (tied :
       first_none None p is = refl
       first_none (Some b) p is = absurd (cc)
 
-      old_or_new : (d : Digest) (b : Named) (o : Option Named) → block_at (stored prefix) d ≡ o → option_or o (cond (digest_eq n.digest d) (Some n) None) ≡ Some b → AreAlike (votes d) (voters b.view d prefix)
+      old_or_new : (d : Digest) (b : Named) (o : Option Named) → block_at (stored prefix) d ≡ o
+          → option_or o (cond (digest_eq n.digest d) (Some n) None) ≡ Some b → AreAlike (votes d) (voters b.view d prefix)
       old_or_new d b None before at = subst (λ (vs : List ℕ). AreAlike vs (voters b.view d prefix)) (sym (tied.none d before))
-          (subst (λ (vs : List ℕ). AreAlike [] vs) (sym (tied.elsewhere d b.view (λ c found same. (let never : None ≡ Some c = sym before ∙ found in absurd (cc))))) (alike []))
+          (subst (λ (vs : List ℕ). AreAlike [] vs)
+          (sym (tied.elsewhere d b.view (λ c found same. (let never : None ≡ Some c = sym before ∙ found in absurd (cc))))) (alike []))
       old_or_new d b (Some c) before at = (let same : c ≡ b = cc in tied.same d b (before ∙ ap (λ (m : Named). Some m) same))
 
   -- an entry that is a vote for a stored block in its view
@@ -84,8 +96,10 @@ module _ (prefix : List Plain) (x : Plain) (votes : Digest → List ℕ) (tied :
         same = subst (λ (v : ℕ). AreAlike (votes block) (voters v block prefix)) view (tied.same block b found)
 
         by : (t : Bool) → is_among (votes block) r ≡ t → AreAlike (if t then votes block else with_replica r (votes block)) (voters w block (prefix ++ x ∷ []))
-        by true old = then_alike (votes block) (voters w block prefix) (voters w block (prefix ++ x ∷ [])) same (voters_met w block prefix x r own (sym (same.among r) ∙ old))
-        by false fresh = more_alike r (votes block) (voters w block prefix) (with_replica r (votes block)) (voters w block (prefix ++ x ∷ [])) same (with_more r (votes block) fresh)
+        by true old = then_alike (votes block) (voters w block prefix) (voters w block (prefix ++ x ∷ [])) same
+            (voters_met w block prefix x r own (sym (same.among r) ∙ old))
+        by false fresh = more_alike r (votes block) (voters w block prefix) (with_replica r (votes block))
+            (voters w block (prefix ++ x ∷ [])) same (with_more r (votes block) fresh)
             (voters_more w block prefix x r own (sym (same.among r) ∙ fresh))
 
     other : (v : ℕ) (d : Digest) → ((v ≡ w) → (d ≡ block) → ⊥) → voter_by v d x ≡ None
@@ -102,20 +116,27 @@ module _ (prefix : List Plain) (x : Plain) (votes : Digest → List ℕ) (tied :
         record {
           same = λ d c at. one d c (subst (λ (bs : List Named). block_at bs d ≡ Some c) blocks at) (digest_eq d block) refl;
           none = λ d at. missing d (subst (λ (bs : List Named). block_at bs d ≡ None) blocks at) (digest_eq d block) refl;
-          elsewhere = λ d v out. (let out_before = (λ (c : Named) (at : block_at (stored prefix) d ≡ Some c). out c (subst (λ (bs : List Named). block_at bs d ≡ Some c) (sym blocks) at)) in
-              voters_same v d prefix x (other v d (λ same_view same_block. out_before b (ap (block_at (stored prefix)) same_block ∙ found) (view ∙ sym same_view))) ∙ tied.elsewhere d v out_before);
+          elsewhere = λ d v out. (let out_before =
+              (λ (c : Named) (at : block_at (stored prefix) d ≡ Some c). out c (subst (λ (bs : List Named). block_at bs d ≡ Some c) (sym blocks) at)) in
+              voters_same v d prefix x
+              (other v d (λ same_view same_block. out_before b (ap (block_at (stored prefix)) same_block ∙ found) (view ∙ sym same_view)))
+              ∙ tied.elsewhere d v out_before);
         }
       where
-        one : (d : Digest) (c : Named) → block_at (stored prefix) d ≡ Some c → (t : Bool) → digest_eq d block ≡ t → AreAlike (if t then add_voter r (votes block) else votes d) (voters c.view d (prefix ++ x ∷ []))
+        one : (d : Digest) (c : Named) → block_at (stored prefix) d ≡ Some c → (t : Bool) → digest_eq d block ≡ t
+            → AreAlike (if t then add_voter r (votes block) else votes d) (voters c.view d (prefix ++ x ∷ []))
         one d c at true is =
             let same : d ≡ block = (digest_eq_decides d block).0 is in
             let both : Some b ≡ Some c = sym found ∙ ap (block_at (stored prefix)) (sym same) ∙ at in
             let is_c : b ≡ c = cc in
             subst (λ (e : Digest). AreAlike (add_voter r (votes block)) (voters c.view e (prefix ++ x ∷ []))) (sym same)
             (subst (λ (v : ℕ). AreAlike (add_voter r (votes block)) (voters v block (prefix ++ x ∷ []))) (sym view ∙ ap (λ (n : Named). n.view) is_c) counts)
-        one d c at false is = subst (λ (vs : List ℕ). AreAlike (votes d) vs) (sym (voters_same c.view d prefix x (other c.view d (λ v same. both_ways (digest_eq d block) is ((digest_eq_decides d block).1 same))))) (tied.same d c at)
+        one d c at false is = subst (λ (vs : List ℕ). AreAlike (votes d) vs)
+            (sym (voters_same c.view d prefix x (other c.view d (λ v same. both_ways (digest_eq d block) is ((digest_eq_decides d block).1 same)))))
+            (tied.same d c at)
 
-        missing : (d : Digest) → block_at (stored prefix) d ≡ None → (t : Bool) → digest_eq d block ≡ t → (if t then add_voter r (votes block) else votes d) ≡ []
+        missing : (d : Digest) → block_at (stored prefix) d ≡ None → (t : Bool) → digest_eq d block ≡ t
+            → (if t then add_voter r (votes block) else votes d) ≡ []
         missing d at true is =
             let same : d ≡ block = (digest_eq_decides d block).0 is in
             let never : None ≡ Some b = sym at ∙ ap (block_at (stored prefix)) same ∙ found in

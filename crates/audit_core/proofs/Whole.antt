@@ -74,7 +74,8 @@ audited_first by = record {
   };
 }
 
-pub begins : (by : Scale) (s : Parameters) (replica : ℕ) (arrivals : List Tx) → by.setting ≡ s → by.replica ≡ replica → by.arrivals ≡ arrivals → HasAudited by [] (nothing_audited s replica arrivals)
+pub begins : (by : Scale) (s : Parameters) (replica : ℕ) (arrivals : List Tx) → by.setting ≡ s → by.replica ≡ replica
+    → by.arrivals ≡ arrivals → HasAudited by [] (nothing_audited s replica arrivals)
 begins by s replica arrivals setting own list =
     subst (λ (p : Parameters). HasAudited by [] (nothing_audited p replica arrivals)) setting
     (subst (λ (r : ℕ). HasAudited by [] (nothing_audited by.setting r arrivals)) own
@@ -104,7 +105,8 @@ readable (Deliver from bytes) can x is = can x (by (read_of bytes) is)
     by (Err fault) same = absurd (none-some x same)
 readable (Tick floor) can x is = absurd (none-some x is)
 
-module _ (laws : Laws) (one_more : StandsForOneMore) (good : (fits : ℕ → List ℕ → List ℕ → Bool) (s : Parameters) (c : Cert) → (is_good fits s c ≡ true) ↔ IsGood fits s c)
+module _ (laws : Laws) (one_more : StandsForOneMore)
+    (good : (fits : ℕ → List ℕ → List ℕ → Bool) (s : Parameters) (c : Cert) → (is_good fits s c ≡ true) ↔ IsGood fits s c)
     (by : Scale) (before : List Entry) (j : Audited) (audited : HasAudited by before j) (e : Entry) (can : IsReadable e.event) where
   shape : (b : Block) → stored_by e ≡ Some b → IsWritableBlock b
   shape b is = written (is_done e.turned.reason) (message_in e.event) b is (readable e.event can)
@@ -112,7 +114,8 @@ module _ (laws : Laws) (one_more : StandsForOneMore) (good : (fits : ℕ → Lis
   module _ (reach : (child ancestor : Digest) → is_stored j.store child ≡ true → Extends j.store child ancestor → extends j.store child ancestor ≡ true) where
     -- The answer is the least rule that is broken.
     pub reported : rule_on by.fits j e ≡ broken_by by before e
-    reported = rule_reported laws one_more by before j audited.stands e (kept_of by before audited.lawful) shape reach (shows good by before e audited.lawful).two.0
+    reported = rule_reported laws one_more by before j audited.stands e (kept_of by before audited.lawful) shape reach
+        (shows good by before e audited.lawful).two.0
 
   -- If none is broken, the state belongs to the prefix that ends with the entry.
   pub audited_next : broken_by by before e ≡ None → HasAudited by (up_to before e) (next_on j e)
@@ -132,10 +135,12 @@ module _ (by : Scale) (before : List Entry) (j : Audited) (audited : HasAudited 
   pub finals_are : StandsForOneMore → finals (chain_state_of (stored_of j) j.safety.committed) ≡ finals_of by.setting before
   finals_are one_more =
       ap (λ (s : Parameters). finals (chain_state_of (record { setting = s; blocks = j.store }) j.safety.committed)) audited.stands.setting
-      ∙ ap finals (state_stands one_more by.setting j.store (stored (map shown before)) audited.stands.ties.safe_tied.stores audited.stands.ties.led j.safety.committed (commit by.setting (map shown before))
+      ∙ ap finals (state_stands one_more by.setting j.store (stored (map shown before)) audited.stands.ties.safe_tied.stores
+      audited.stands.ties.led j.safety.committed (commit by.setting (map shown before))
       audited.stands.ties.safe_tied.at_commit)
 
   pub finals_reported : StandsForOneMore → (batches : List (List Tx)) {E : Type 0} (r : Result Bool E)
-      → IfOk r (λ same. same ≡ pointwise (pointwise tx_eq) batches (finals (chain_state_of (stored_of j) j.safety.committed))) → IfOk r (λ same. same ≡ pointwise (pointwise tx_eq) batches (finals_of by.setting before))
+      → IfOk r (λ same. same ≡ pointwise (pointwise tx_eq) batches (finals (chain_state_of (stored_of j) j.safety.committed)))
+      → IfOk r (λ same. same ≡ pointwise (pointwise tx_eq) batches (finals_of by.setting before))
   finals_reported one_more batches (Ok same) is = is ∙ ap (pointwise (pointwise tx_eq) batches) (finals_are one_more)
   finals_reported one_more batches (Err fault) is = tt

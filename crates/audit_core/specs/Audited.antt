@@ -25,7 +25,8 @@ pub record Audited : Type 0 where
 
 -- the state before the first entry
 abbrev pub nothing_audited : Parameters → ℕ → List Tx → Audited
-nothing_audited s replica arrivals = record { setting = s; replica = replica; arrivals = arrivals; kept = 0; store = []; safety = opening; voters = []; marks = [] }
+nothing_audited s replica arrivals =
+    record { setting = s; replica = replica; arrivals = arrivals; kept = 0; store = []; safety = opening; voters = []; marks = [] }
 
 -- the stored blocks, with the setting of their chains
 abbrev pub stored_of : Audited → Stored

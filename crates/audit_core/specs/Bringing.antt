@@ -100,7 +100,8 @@ seen_if s votes store view block safe = if nat_le (quorum_of s) (length votes) t
 abbrev pub taken : Carried → Audited → Audited
 taken carried.Nothing j = j
 taken (carried.Cert view block) j = record j { safety = seen_in j.store view block j.safety }
-taken (carried.Block digest block proposed) j = record j { store = with_block block j.store; safety = seen_in j.store block.cert.view block.cert.block j.safety }
+taken (carried.Block digest block proposed) j =
+    record j { store = with_block block j.store; safety = seen_in j.store block.cert.view block.cert.block j.safety }
 taken (carried.Vote replica view block) j = record j {
   voters = counted replica block j.voters;
   safety = seen_if j.setting (add_voter replica (voters_of j.voters block)) j.store view block j.safety;

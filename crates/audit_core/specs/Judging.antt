@@ -42,7 +42,8 @@ taken_on fits j e = if takes_on fits j e then Some (carried_in e) else None
 
 -- A statement is the spelling of the order that is drawn over this parent for the replica and the view that it names.
 abbrev pub drawn_over : Stored → List Tx → List ℕ → Digest → Bool
-drawn_over s known statement parent = pointwise ◌==◌ statement (order_spelling (order_drawn (replica_named statement) (view_named statement) parent known (chain_state_of s parent)))
+drawn_over s known statement parent = pointwise ◌==◌ statement
+    (order_spelling (order_drawn (replica_named statement) (view_named statement) parent known (chain_state_of s parent)))
 
 -- the parent that it names is stored
 abbrev pub drawn_on : Stored → List Tx → List ℕ → Bool

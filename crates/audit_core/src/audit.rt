@@ -141,7 +141,8 @@ impl<'a> Auditor<'a> {
 
     /// Whether these are the batches of the chain of the commit.
     pub(crate) fn has_finals(&self, batches: &[TxList]) -> Result<bool, NoMemory>
-        ensures finals { IfOk result (λ same. same ≡ pointwise (pointwise tx_eq) batches.now (finals (chain_state_of (stored_of self.now) self.now.safety.committed))) }
+        ensures finals { IfOk result
+            (λ same. same ≡ pointwise (pointwise tx_eq) batches.now (finals (chain_state_of (stored_of self.now) self.now.safety.committed))) }
         ensures reported { (by : Scale) (before : List Entry) → HasAudited by before self.now
             → IfOk result (λ same. same ≡ pointwise (pointwise tx_eq) batches.now (finals_of by.setting before)) }
     {
@@ -150,7 +151,8 @@ impl<'a> Auditor<'a> {
     }
 
     fn are_finals(&self, batches: &[TxList]) -> Result<bool, NoMemory>
-        ensures { IfOk result (λ same. same ≡ pointwise (pointwise tx_eq) batches.now (finals (chain_state_of (stored_of self.now) self.now.safety.committed))) }
+        ensures { IfOk result
+            (λ same. same ≡ pointwise (pointwise tx_eq) batches.now (finals (chain_state_of (stored_of self.now) self.now.safety.committed))) }
     {
         let finals = self.blocks.finals(&self.safety.committed())?;
         Ok(batches == finals.as_slice())
@@ -215,7 +217,8 @@ impl<'a> Auditor<'a> {
         requires { message.now ≡ message_in entry.now.event }
         ensures found { IfOk result (λ found. found ≡ taken_on (C.meaning checker.now) self.old entry.now) }
         ensures taken { IfOk result (λ found. IfSome found (MayTake self.old.store)) }
-        ensures marks { IfOk result (λ found. IfSome found (λ b. self.new ≡ record self.old { marks = marked self.old.marks (marks_in entry.now.turned.sealed) })) }
+        ensures marks { IfOk result
+            (λ found. IfSome found (λ b. self.new ≡ record self.old { marks = marked self.old.marks (marks_in entry.now.turned.sealed) })) }
     {
         if !is_idle(entry) {
             return Ok(None);
@@ -401,7 +404,8 @@ impl<'a> Auditor<'a> {
 
     /// Whether a statement is no order, or the one that is drawn from what is known.
     fn may_seal(&self, statement: &[u8]) -> Result<bool, NoMemory>
-        ensures { IfOk result (λ may. may ≡ (not (get_or statement.now 0 0 == 3) || drawn_on (stored_of self.now) (take self.now.kept self.now.arrivals) statement.now)) }
+        ensures { IfOk result
+            (λ may. may ≡ (not (get_or statement.now 0 0 == 3) || drawn_on (stored_of self.now) (take self.now.kept self.now.arrivals) statement.now)) }
     {
         let known = &self.arrivals[..self.kept];
         may_seal(self.alloc, &self.blocks, known, statement)

@@ -98,7 +98,8 @@ fn broken_after(
     commit: u32,
     batches: &[TxList],
 ) -> Result<Option<u32>, NoMemory>
-    ensures { (by : Scale) (journal : List Entry) → HasAudited by journal audit.now → IfOk result (λ rule. rule ≡ broken_after by.setting journal commit batches.now) }
+    ensures { (by : Scale) (journal : List Entry) → HasAudited by journal audit.now
+        → IfOk result (λ rule. rule ≡ broken_after by.setting journal commit batches.now) }
 {
     if commit != audit.commit_view() {
         Ok(Some(6))

@@ -44,8 +44,10 @@ module _ (by : Scale) (journal : List Entry) (committed : ℕ) (batches : List (
 
   after_reported : broken_after by.setting (reported journal) committed batches ≡ broken_after by.setting journal committed batches
   after_reported =
-      ap (λ (view : ℕ). cond (not (committed == view)) (Some 6) (cond (not (pointwise (pointwise tx_eq) batches (finals_of by.setting (reported journal)))) (Some 7) None)) view_reported
-      ∙ ap (λ (list : List (List Tx)). cond (not (committed == commit_view_of by.setting journal)) (Some 6) (cond (not (pointwise (pointwise tx_eq) batches list)) (Some 7) None)) finals_reported
+      ap (λ (view : ℕ). cond (not (committed == view)) (Some 6)
+      (cond (not (pointwise (pointwise tx_eq) batches (finals_of by.setting (reported journal)))) (Some 7) None)) view_reported
+      ∙ ap (λ (list : List (List Tx)). cond (not (committed == commit_view_of by.setting journal)) (Some 6)
+      (cond (not (pointwise (pointwise tx_eq) batches list)) (Some 7) None)) finals_reported
 
   audited_reported : audited by (reported journal) committed batches ≡ audited by journal committed batches
   audited_reported =

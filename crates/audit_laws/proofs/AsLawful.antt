@@ -24,7 +24,8 @@ bare_lawful none_found fits run span lawful = record {
   distinct = λ r honest. lawful.distinct r (record { below = honest.below; correct = honest.correct });
   fit = λ r honest. lawful.fit r (record { below = honest.below; correct = honest.correct });
   reported = λ r honest. subst (All (λ (e : Entry). IsReadable e.event)) (sym (journal_reported run r honest.below honest.correct span))
-      (All-map (λ (e : Entry). IsReadable e.event) without_sends (journal_in run r) (lawful.reported r (record { below = honest.below; correct = honest.correct })));
+      (All-map (λ (e : Entry). IsReadable e.event) without_sends (journal_in run r)
+      (lawful.reported r (record { below = honest.below; correct = honest.correct })));
   obeys = λ r honest. (none_found fits (bared run span).run).0 (audited_alike fits run span ∙ lawful_passes none_found fits run lawful) r honest.below
       (tested_honest (bared run span).run r honest);
 }

@@ -15,4 +15,5 @@ module _ (run : RunRecord) (r : ℕ) where
 
   pub tested_honest : IsHonest run r → honest_in run r ≡ true
   tested_honest honest =
-      and_from (nat_lt r run.setting.n) (not (is_among run.faulty r)) (lt-ltb r run.setting.n honest.below) (not_from_false (is_among run.faulty r) honest.correct)
+      and_from (nat_lt r run.setting.n) (not (is_among run.faulty r)) (lt-ltb r run.setting.n honest.below)
+      (not_from_false (is_among run.faulty r) honest.correct)

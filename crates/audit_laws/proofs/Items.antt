@@ -25,7 +25,8 @@ module _ {X A : Type 0} (honest : ℕ → Bool) where
   over add none replica (x ∷ xs) = cond (honest replica) (add replica x (over add none (replica + 1) xs)) (over add none (replica + 1) xs)
 
   module _ (g : List (ℕ × X) → A) (add : ℕ → X → A → A) (adds : (p : ℕ × X) (ps : List (ℕ × X)) → g (p ∷ ps) ≡ add p.0 p.1 (g ps)) where
-    goes_on : (b : Bool) (replica : ℕ) (x : X) (items : List (ℕ × X)) (rest : A) → g items ≡ rest → g (cond b ((replica, x) ∷ items) items) ≡ cond b (add replica x rest) rest
+    goes_on : (b : Bool) (replica : ℕ) (x : X) (items : List (ℕ × X)) (rest : A) → g items ≡ rest
+        → g (cond b ((replica, x) ∷ items) items) ≡ cond b (add replica x rest) rest
     goes_on true replica x items rest is = adds (replica, x) items ∙ ap (add replica x) is
     goes_on false replica x items rest is = is
 
@@ -45,7 +46,8 @@ module _ {X A : Type 0} (honest : ℕ → Bool) where
       ∙ either_way (honest replica) rest
       ∙ idle_over add none d (replica + 1) xs (of_others honest P replica idle)
 
-  module _ (add other : ℕ → X → A → A) (none : A) (d : X) (idle : (r : ℕ) (rest : A) → add r d rest ≡ rest) (other_idle : (r : ℕ) (rest : A) → other r d rest ≡ rest) where
+  module _ (add other : ℕ → X → A → A) (none : A) (d : X) (idle : (r : ℕ) (rest : A) → add r d rest ≡ rest)
+      (other_idle : (r : ℕ) (rest : A) → other r d rest ≡ rest) where
     pub same_over : (replica : ℕ) (xs ys : List X)
         → ((k : ℕ) → honest (replica + k) ≡ true → (rest : A) → add (replica + k) (get_or xs k d) rest ≡ other (replica + k) (get_or ys k d) rest)
         → over add none replica xs ≡ over other none replica ys

@@ -19,7 +19,8 @@ use Rattle.audit_laws.proofs.Honest.{tested_honest}
 -- ascending replicas are distinct
 faulty_apart : (n f : ℕ) (faulty : List ℕ) → FitFaulty n f faulty → AreReplicas n faulty
 faulty_apart n f faulty fits = record {
-  distinct = λ i j d less inside same. (let rise : get_or faulty i d < get_or faulty j d = fits.ascending i j d less inside in absurd (omega (arith, rise, same)));
+  distinct = λ i j d less inside same.
+      (let rise : get_or faulty i d < get_or faulty j d = fits.ascending i j d less inside in absurd (omega (arith, rise, same)));
   below = All-from_recursion (λ (r : ℕ). r < n) faulty fits.below;
 }
 
@@ -32,7 +33,8 @@ module _ (counted : (n : ℕ) (xs : List ℕ) → AreReplicas n xs → size_of n
     few_faulty : size_of run.setting.n (is_among run.faulty) ≤ run.setting.f
     few_faulty =
         let faulty = written.opening.faulty in
-        let size : size_of run.setting.n (is_among run.faulty) ≡ length run.faulty = counted run.setting.n run.faulty (faulty_apart run.setting.n run.setting.f run.faulty faulty) in
+        let size : size_of run.setting.n (is_among run.faulty) ≡ length run.faulty =
+        counted run.setting.n run.faulty (faulty_apart run.setting.n run.setting.f run.faulty faulty) in
         let few : length run.faulty ≤ run.setting.f = faulty.few in
         omega (arith, size, few)
 
@@ -51,7 +53,9 @@ module _ (counted : (n : ℕ) (xs : List ℕ) → AreReplicas n xs → size_of n
       obeys = λ r honest. (none_found fits run).0 none r honest.below (tested_honest run r honest);
     }
 
-  pub audited_lawful : (fits : Check) (trace : Trace) (bytes : List ℕ) → Traces trace bytes → IsReportedReadably trace.run → first_unlawful_of fits trace.run ≡ None
+  pub audited_lawful : (fits : Check) (trace : Trace) (bytes : List ℕ) → Traces trace bytes → IsReportedReadably trace.run
+      → first_unlawful_of fits trace.run ≡ None
       → IsLawfulRun fits trace.run
   audited_lawful fits trace bytes t =
-      subst (λ (u : Trace). IsReportedReadably u.run → first_unlawful_of fits u.run ≡ None → IsLawfulRun fits u.run) (sym t.is) (reported_lawful t.contents t.fits fits)
+      subst (λ (u : Trace). IsReportedReadably u.run → first_unlawful_of fits u.run ≡ None → IsLawfulRun fits u.run) (sym t.is)
+      (reported_lawful t.contents t.fits fits)

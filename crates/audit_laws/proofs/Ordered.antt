@@ -11,7 +11,8 @@ use Rattle.audit_laws.proofs.Honest.{shown_honest, tested_honest}
 
 module _ (sound_reported : (fits : Check) (run : RunRecord) → IsLawfulRun fits run → IsDoneOrStalled fits run ↔ IsSound fits run)
     (agree : (fits : Check) (run : RunRecord) → IsSound fits run → Agree run) (once : (fits : Check) (run : RunRecord) → IsSound fits run → Once run)
-    (complete : (fits : Check) (run : RunRecord) → IsSound fits run → Complete run) (fair : (fits : Check) (run : RunRecord) → IsSound fits run → Fair run) where
+    (complete : (fits : Check) (run : RunRecord) → IsSound fits run → Complete run)
+    (fair : (fits : Check) (run : RunRecord) → IsSound fits run → Fair run) where
   pub lawful_ordered : (fits : Check) (run : RunRecord) → IsLawfulRun fits run → IsDoneOrStalled fits run → IsOrdered run
   lawful_ordered fits run lawful audited = (let sound = (sound_reported fits run lawful).0 audited in record {
     agree = agree fits run sound;

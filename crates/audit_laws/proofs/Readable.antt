@@ -49,7 +49,8 @@ module _ (readable : (bytes : List ℕ) (m : MessageView) → All (λ b. b < 256
   event_part e each =
       let code : List ℕ = to_be_bytes w8 (reason_code e.turned.reason) in
       let kept : List ℕ = to_be_bytes w32 e.turned.kept in
-      first_part (event_spelling e.event) code (first_part (event_spelling e.event ++ code) kept (first_part (event_spelling e.event ++ code ++ kept) (statements_spelling e.turned.sealed) each))
+      first_part (event_spelling e.event) code (first_part (event_spelling e.event ++ code) kept
+      (first_part (event_spelling e.event ++ code ++ kept) (statements_spelling e.turned.sealed) each))
 
   entries_readable : (es : List Entry) → AreBytes (flat_map entry_spelling es) → AllByRecursion (λ (e : Entry). IsReadable e.event) es
   entries_readable [] each = tt
@@ -60,32 +61,39 @@ module _ (readable : (bytes : List ℕ) (m : MessageView) → All (λ b. b < 256
 
   journal_readable : (a : Account) → AreBytes (account_spelling a) → AllByRecursion (λ (e : Entry). IsReadable e.event) a.journal.entries
   unfolding entries_spelling
-  journal_readable a each = entries_readable a.journal.entries (last_part (to_be_bytes w32 (length a.journal.entries)) (flat_map entry_spelling a.journal.entries) (first_part (entries_spelling a.journal.entries) (head_spelling a.head ++ batches_spelling a.batches) each))
+  journal_readable a each = entries_readable a.journal.entries
+      (last_part (to_be_bytes w32 (length a.journal.entries)) (flat_map entry_spelling a.journal.entries)
+      (first_part (entries_spelling a.journal.entries) (head_spelling a.head ++ batches_spelling a.batches) each))
 
-  account_readable : (faulty : List ℕ) (start : ℕ) (accounts : List Account) (k : ℕ) → AreBytes (accounts_spelling faulty start accounts) → is_among faulty (start + k) ≡ false
+  account_readable : (faulty : List ℕ) (start : ℕ) (accounts : List Account) (k : ℕ) → AreBytes (accounts_spelling faulty start accounts)
+      → is_among faulty (start + k) ≡ false
       → AllByRecursion (λ (e : Entry). IsReadable e.event) (get_or accounts k bare).journal.entries
   account_readable faulty start [] k each honest = tt
   account_readable faulty start (a ∷ accounts) zero each honest =
       let here : start + 0 ≡ start = omega arith in
-      let reported : AreBytes (cond (is_among faulty start) [] (account_spelling a)) = first_part (cond (is_among faulty start) [] (account_spelling a)) (accounts_spelling faulty (suc start) accounts) each in
+      let reported : AreBytes (cond (is_among faulty start) [] (account_spelling a)) =
+      first_part (cond (is_among faulty start) [] (account_spelling a)) (accounts_spelling faulty (suc start) accounts) each in
       journal_readable a (subst (λ (b : Bool). AreBytes (cond b [] (account_spelling a))) (subst (λ (s : ℕ). is_among faulty s ≡ false) here honest) reported)
   account_readable faulty start (a ∷ accounts) (suc k) each honest =
       let next : start + suc k ≡ suc start + k = omega arith in
-      account_readable faulty (suc start) accounts k (last_part (cond (is_among faulty start) [] (account_spelling a)) (accounts_spelling faulty (suc start) accounts) each)
+      account_readable faulty (suc start) accounts k
+      (last_part (cond (is_among faulty start) [] (account_spelling a)) (accounts_spelling faulty (suc start) accounts) each)
       (subst (λ (s : ℕ). is_among faulty s ≡ false) next honest)
 
   contents_readable : (c : Contents) → AreBytes (contents_spelling c) → IsReportedReadably (trace_of c).run
   unfolding contents_spelling
   contents_readable c each = λ r honest.
       let accounts = c.accounts in
-      let reported : AreBytes (accounts_spelling c.opening.faulty 0 accounts) = last_part (opening_spelling c.opening ++ flat_map list_spelling c.arrivals) (accounts_spelling c.opening.faulty 0 accounts) each in
+      let reported : AreBytes (accounts_spelling c.opening.faulty 0 accounts) =
+      last_part (opening_spelling c.opening ++ flat_map list_spelling c.arrivals) (accounts_spelling c.opening.faulty 0 accounts) each in
       let place : 0 + r ≡ r = omega arith in
       let read : AllByRecursion (λ (e : Entry). IsReadable e.event) (get_or accounts r bare).journal.entries =
       account_readable c.opening.faulty 0 accounts r reported (subst (λ (s : ℕ). is_among c.opening.faulty s ≡ false) (sym place) honest.correct) in
       let journal : journal_in (trace_of c).run r ≡ (get_or accounts r bare).journal.entries =
       sym (read_through (λ (j : Journal). j.entries) (map (λ (x : Account). x.journal) accounts) r bare.journal)
       ∙ ap (λ (j : Journal). j.entries) (get_or-map (λ (x : Account). x.journal) accounts r bare) in
-      subst (All (λ (e : Entry). IsReadable e.event)) (sym journal) (All-from_recursion (λ (e : Entry). IsReadable e.event) (get_or accounts r bare).journal.entries read)
+      subst (All (λ (e : Entry). IsReadable e.event)) (sym journal)
+      (All-from_recursion (λ (e : Entry). IsReadable e.event) (get_or accounts r bare).journal.entries read)
 
   pub reported_readably : (trace : Trace) (bytes : List ℕ) → Traces trace bytes → All (λ b. b < 256) bytes → IsReportedReadably trace.run
   reported_readably trace bytes t each =

@@ -90,9 +90,14 @@ broken_from_same : (by : Scale) (before entries : List Entry) → broken_from by
 unfolding broken_from
 broken_from_same by before [] = refl
 broken_from_same by before (e ∷ entries) =
-    ap (λ (n : ℕ). option_or (option_map (place n) (broken_by by (reported before) (without_sends e))) (broken_from by (up_to (reported before) (without_sends e)) (reported entries))) (length-map before without_sends)
-    ∙ ap (λ (rule : Option ℕ). option_or (option_map (place (length before)) rule) (broken_from by (up_to (reported before) (without_sends e)) (reported entries))) (broken_same by before e)
-    ∙ ap (λ (prefix : List Entry). option_or (option_map (place (length before)) (broken_by by before e)) (broken_from by prefix (reported entries))) (reported_up_to before e)
+    ap (λ (n : ℕ). option_or (option_map (place n) (broken_by by (reported before) (without_sends e)))
+    (broken_from by (up_to (reported before) (without_sends e)) (reported entries)))
+    (length-map before without_sends)
+    ∙ ap (λ (rule : Option ℕ).
+    option_or (option_map (place (length before)) rule) (broken_from by (up_to (reported before) (without_sends e)) (reported entries)))
+    (broken_same by before e)
+    ∙ ap (λ (prefix : List Entry). option_or (option_map (place (length before)) (broken_by by before e)) (broken_from by prefix (reported entries)))
+    (reported_up_to before e)
     ∙ ap (option_or (option_map (place (length before)) (broken_by by before e))) (broken_from_same by (up_to before e) entries)
 
 -- The first place at which a rule is broken is the same.

@@ -36,7 +36,8 @@ sealed_reported : (statement : List ℕ) (es : List Entry) → list_any (has_sea
 sealed_reported statement [] = refl
 sealed_reported statement (e ∷ es) = ap (λ (b : Bool). has_sealed statement e || b) (sealed_reported statement es)
 
-sealed_through : (statement : List ℕ) (js : List Journal) (r : ℕ) → is_sealed_in statement (slice_get js r) ≡ list_any (has_sealed statement) (get_or js r bare.journal).entries
+sealed_through : (statement : List ℕ) (js : List Journal) (r : ℕ)
+    → is_sealed_in statement (slice_get js r) ≡ list_any (has_sealed statement) (get_or js r bare.journal).entries
 sealed_through statement [] r = refl
 sealed_through statement (j ∷ js) zero = refl
 sealed_through statement (j ∷ js) (suc r) = sealed_through statement js r
@@ -53,14 +54,16 @@ module _ (run : RunRecord) (span : Span) where
   abbrev other : RunRecord
   other = (bared run span).run
 
-  journal_at : (r : ℕ) → honest_in run r ≡ true → get_or other.journals r bare.journal ≡ record { entries = reported (get_or run.journals r bare.journal).entries }
+  journal_at : (r : ℕ) → honest_in run r ≡ true
+      → get_or other.journals r bare.journal ≡ record { entries = reported (get_or run.journals r bare.journal).entries }
   journal_at r honest =
       let is = shown_honest run r honest in
       get_or-map (λ (x : Account). x.journal) (accounts run) r bare ∙ ap (λ (x : Account). x.journal) (account_is run r is.below is.correct span)
 
   -- ---- forged seals
 
-  sealed_alike : (signer : ℕ) (statement : List ℕ) → honest_in run signer ≡ true → was_sealed other.journals signer statement ≡ was_sealed run.journals signer statement
+  sealed_alike : (signer : ℕ) (statement : List ℕ) → honest_in run signer ≡ true
+      → was_sealed other.journals signer statement ≡ was_sealed run.journals signer statement
   sealed_alike signer statement honest =
       sealed_through statement other.journals signer
       ∙ ap (λ (j : Journal). list_any (has_sealed statement) j.entries) (journal_at signer honest)
@@ -70,7 +73,8 @@ module _ (run : RunRecord) (span : Span) where
   module _ (check : Check) where
     forged_alike : (p : Part) → is_forged check other p ≡ is_forged check run p
     forged_alike p =
-        ap (λ (b : Bool). b && check p.signer p.statement p.seal) (and_where (honest_in run p.signer) (not (was_sealed other.journals p.signer p.statement)) (not (was_sealed run.journals p.signer p.statement))
+        ap (λ (b : Bool). b && check p.signer p.statement p.seal)
+        (and_where (honest_in run p.signer) (not (was_sealed other.journals p.signer p.statement)) (not (was_sealed run.journals p.signer p.statement))
         (λ honest. ap not (sealed_alike p.signer p.statement honest)))
 
     part_alike : (receiver entry : ℕ) (p : ℕ × Part) → forged_part check other receiver entry p ≡ forged_part check run receiver entry p
@@ -80,19 +84,22 @@ module _ (run : RunRecord) (span : Span) where
     entry_alike : (receiver n : ℕ) (e : Entry) → forged_in_entry check other receiver (n, without_sends e) ≡ forged_in_entry check run receiver (n, e)
     unfolding forged_in_entry forged_from
     entry_alike receiver n e =
-        first_of_same (forged_part check other receiver (counted n)) (forged_part check run receiver (counted n)) (part_alike receiver (counted n)) (enumerate_from 0 (parts_in (delivered e)))
+        first_of_same (forged_part check other receiver (counted n)) (forged_part check run receiver (counted n))
+        (part_alike receiver (counted n)) (enumerate_from 0 (parts_in (delivered e)))
 
     entries_alike : (receiver n : ℕ) (es : List Entry)
         → first_of (forged_in_entry check other receiver) (enumerate_from n (reported es)) ≡ first_of (forged_in_entry check run receiver) (enumerate_from n es)
     entries_alike receiver n [] = refl
     entries_alike receiver n (e ∷ es) =
-        ap (λ (o : Option ForgedAt). option_or o (first_of (forged_in_entry check other receiver) (enumerate_from (n + 1) (reported es)))) (entry_alike receiver n e)
+        ap (λ (o : Option ForgedAt). option_or o (first_of (forged_in_entry check other receiver) (enumerate_from (n + 1) (reported es))))
+        (entry_alike receiver n e)
         ∙ ap (option_or (forged_in_entry check run receiver (n, e))) (entries_alike receiver (n + 1) es)
 
     forged_add : RunRecord → ℕ → Journal → Option ForgedAt → Option ForgedAt
     forged_add x r j rest = option_or (forged_in_journal check x (r, j)) rest
 
-    forged_adds : (k r : ℕ) → honest_in run k ≡ true → forged_in_journal check other (r, get_or other.journals k bare.journal) ≡ forged_in_journal check run (r, get_or run.journals k bare.journal)
+    forged_adds : (k r : ℕ) → honest_in run k ≡ true → forged_in_journal check other (r, get_or other.journals k bare.journal)
+        ≡ forged_in_journal check run (r, get_or run.journals k bare.journal)
     unfolding forged_in_journal
     forged_adds k r honest =
         ap (λ (j : Journal). forged_in_journal check other (r, j)) (journal_at k honest) ∙ entries_alike r 0 (get_or run.journals k bare.journal).entries
@@ -111,7 +118,8 @@ module _ (run : RunRecord) (span : Span) where
   received_add : ℕ → Journal → List Received → List Received
   received_add r j rest = received_in (r, j) ++ rest
 
-  received_adds : (k r : ℕ) → honest_in run k ≡ true → received_in (r, get_or other.journals k bare.journal) ≡ received_in (r, get_or run.journals k bare.journal)
+  received_adds : (k r : ℕ) → honest_in run k ≡ true
+      → received_in (r, get_or other.journals k bare.journal) ≡ received_in (r, get_or run.journals k bare.journal)
   unfolding received_from
   received_adds k r honest =
       ap (λ (j : Journal). received_in (r, j)) (journal_at k honest) ∙ received_reported r 0 (get_or run.journals k bare.journal).entries
@@ -141,11 +149,13 @@ module _ (run : RunRecord) (span : Span) where
         ∙ ap (λ (x : Account). Some x.batches) (account_is run r below correct span)
         ∙ sym (slice_get-get_or run.batches r [] here)
 
-    lists_where : (due : List Tx) (r : ℕ) → r < run.setting.n → (b : Bool) → is_among run.faulty r ≡ b → (b || lists_all other due r) ≡ (b || lists_all run due r)
+    lists_where : (due : List Tx) (r : ℕ) → r < run.setting.n → (b : Bool) → is_among run.faulty r ≡ b
+        → (b || lists_all other due r) ≡ (b || lists_all run due r)
     lists_where due r below true is = refl
     lists_where due r below false is = ap (λ (o : Option (List (List Tx))). option_map_or (λ batches. hold_all batches due) o false) (batches_at r below is)
 
-    all_alike : (due : List Tx) (start n : ℕ) → start + n ≤ run.setting.n → all_list other due (range_with_len start n) ≡ all_list run due (range_with_len start n)
+    all_alike : (due : List Tx) (start n : ℕ) → start + n ≤ run.setting.n
+        → all_list other due (range_with_len start n) ≡ all_list run due (range_with_len start n)
     all_alike due start zero within = refl
     all_alike due start (suc n) within =
         let below : start < run.setting.n = omega (arith, within) in
@@ -155,7 +165,9 @@ module _ (run : RunRecord) (span : Span) where
 
     done_alike : is_record_done other ≡ is_record_done run
     unfolding is_record_done
-    done_alike = (let within : 0 + run.setting.n ≤ run.setting.n = omega arith in all_alike (due_of run.setting.n run.faulty run.arrivals) 0 run.setting.n within)
+    done_alike =
+        (let within : 0 + run.setting.n ≤ run.setting.n = omega arith in
+        all_alike (due_of run.setting.n run.faulty run.arrivals) 0 run.setting.n within)
 
     pub verdict_alike : (check : Check) → verdict_of check other ≡ verdict_of check run
     unfolding verdict_of

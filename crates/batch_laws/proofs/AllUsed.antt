@@ -26,7 +26,8 @@ module _ (g : Graph) (graph : IsGraph g) (reaches : ℕ → ℕ → Bool) (repor
       (short, at g graph reaches report k short)
 
   -- two heads have different numbers
-  heads_apart : (i j : ℕ) → i < j → j < length (range_with_len 0 size) → is_head (get_or (range_with_len 0 size) i 0) ≡ true → is_head (get_or (range_with_len 0 size) j 0) ≡ true
+  heads_apart : (i j : ℕ) → i < j → j < length (range_with_len 0 size) → is_head (get_or (range_with_len 0 size) i 0) ≡ true
+      → is_head (get_or (range_with_len 0 size) j 0) ≡ true
       → number (get_or (range_with_len 0 size) i 0) ≡ number (get_or (range_with_len 0 size) j 0) → ⊥
   heads_apart i j below inside one other same =
       let a = there i (omega arith) in
@@ -34,25 +35,29 @@ module _ (g : Graph) (graph : IsGraph g) (reaches : ℕ → ℕ → Bool) (repor
       let left : head_of reaches size i ≡ i = eqb-true (head_of reaches size i) i (ap is_head (sym a.1) ∙ one) in
       let right : head_of reaches size j ≡ j = eqb-true (head_of reaches size j) j (ap is_head (sym b.1) ∙ other) in
       let number_same : number i ≡ number j = ap number (sym a.1) ∙ same ∙ ap number b.1 in
-      let heads : head_of reaches size i ≡ head_of reaches size j = same_head g graph reaches report i j a.0 b.0 (one_number g graph reaches report i j a.0 b.0 number_same) in
+      let heads : head_of reaches size i ≡ head_of reaches size j =
+      same_head g graph reaches report i j a.0 b.0 (one_number g graph reaches report i j a.0 b.0 number_same) in
       absurd (omega arith)
 
   low_heads : (c : ℕ) → count_by (λ w. is_head w && nat_lt (number w) c) (range_with_len 0 size) ≤ c
   low_heads c = few_below number is_head (range_with_len 0 size) heads_apart c
 
   abbrev counted_for : ℕ → ℕ → Bool
-  counted_for u w = (head_of reaches size w == w) && stands_before (reached_from reaches size w) (head_of reaches size w) (reached_from reaches size u) (head_of reaches size u)
+  counted_for u w = (head_of reaches size w == w)
+      && stands_before (reached_from reaches size w) (head_of reaches size w) (reached_from reaches size u) (head_of reaches size u)
 
   -- where no number of a passing one is c or more, at most c pass
   all_low : (c : ℕ) (p : ℕ → Bool) → ((w : ℕ) → p w ≡ true → is_head w ≡ true)
-      → ((i : ℕ) → i < length (range_with_len 0 size) → (p (get_or (range_with_len 0 size) i 0) && nat_lt c (suc (number (get_or (range_with_len 0 size) i 0)))) ≡ false)
+      → ((i : ℕ) → i < length (range_with_len 0 size)
+      → (p (get_or (range_with_len 0 size) i 0) && nat_lt c (suc (number (get_or (range_with_len 0 size) i 0)))) ≡ false)
       → count_by p (range_with_len 0 size) ≤ c
   all_low c p heads none =
       let most = low_heads c in
       let within : count_by p (range_with_len 0 size) ≤ count_by (λ w. is_head w && nat_lt (number w) c) (range_with_len 0 size) =
       count_within_at p (λ w. is_head w && nat_lt (number w) c) (range_with_len 0 size) 0
       (λ i inside is.
-      and_from (is_head (get_or (range_with_len 0 size) i 0)) (nat_lt (number (get_or (range_with_len 0 size) i 0)) c) (heads (get_or (range_with_len 0 size) i 0) is)
+      and_from (is_head (get_or (range_with_len 0 size) i 0)) (nat_lt (number (get_or (range_with_len 0 size) i 0)) c)
+      (heads (get_or (range_with_len 0 size) i 0) is)
       (low (get_or (range_with_len 0 size) i 0) is (none i inside))) in
       omega arith
     where
@@ -72,16 +77,20 @@ module _ (g : Graph) (graph : IsGraph g) (reaches : ℕ → ℕ → Bool) (repor
         | inr (inr more) ↦ elim (some_or_none (λ w. counted_for h w && nat_lt c (suc (number w))) (range_with_len 0 size)) [
           | inl found ↦
               let place = there found.0 found.1 in
-              let is : (counted_for h found.0 && nat_lt c (suc (number found.0))) ≡ true = ap (λ (w : ℕ). counted_for h w && nat_lt c (suc (number w))) (sym place.1) ∙ found.2 in
+              let is : (counted_for h found.0 && nat_lt c (suc (number found.0))) ≡ true =
+              ap (λ (w : ℕ). counted_for h w && nat_lt c (suc (number w))) (sym place.1) ∙ found.2 in
               let parts = and_parts (counted_for h found.0) (nat_lt c (suc (number found.0))) is in
-              let counts = and_parts (is_head found.0) (stands_before (reached_from reaches size found.0) (head_of reaches size found.0) (reached_from reaches size h) (head_of reaches size h)) parts.0 in
+              let counts = and_parts (is_head found.0) (stands_before (reached_from reaches size found.0) (head_of reaches size found.0)
+              (reached_from reaches size h) (head_of reaches size h)) parts.0 in
               let lower : number found.0 < number h = before_is_lower g graph reaches report found.0 h place.0 counts.1 in
               let from : c < suc (number found.0) = ltb-true c (suc (number found.0)) parts.1 in
               descend c n found.0 place.0 (omega arith) (omega arith)
           | inr none ↦
               let most : number h ≤ c =
               all_low c (counted_for h)
-              (λ w is. (and_parts (is_head w) (stands_before (reached_from reaches size w) (head_of reaches size w) (reached_from reaches size h) (head_of reaches size h)) is).0) none in
+              (λ w is. (and_parts (is_head w)
+              (stands_before (reached_from reaches size w) (head_of reaches size w) (reached_from reaches size h) (head_of reaches size h)) is).0)
+              none in
               absurd (omega arith)
         ]
       ]
@@ -91,7 +100,8 @@ module _ (g : Graph) (graph : IsGraph g) (reaches : ℕ → ℕ → Bool) (repor
       elim (some_or_none (λ w. is_head w && nat_lt c (suc (number w))) (range_with_len 0 size)) [
         | inl found ↦
             let place = there found.0 found.1 in
-            let is : (is_head found.0 && nat_lt c (suc (number found.0))) ≡ true = ap (λ (w : ℕ). is_head w && nat_lt c (suc (number w))) (sym place.1) ∙ found.2 in
+            let is : (is_head found.0 && nat_lt c (suc (number found.0))) ≡ true =
+            ap (λ (w : ℕ). is_head w && nat_lt c (suc (number w))) (sym place.1) ∙ found.2 in
             let from : c < suc (number found.0) = ltb-true c (suc (number found.0)) (and_parts (is_head found.0) (nat_lt c (suc (number found.0))) is).1 in
             descend c (number found.0) found.0 place.0 (omega arith) (omega arith)
         | inr none ↦

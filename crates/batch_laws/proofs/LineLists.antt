@@ -18,7 +18,8 @@ use Rattle.seq_base.proofs.Members.{one_place}
 use Rattle.batch_laws.proofs.WantedItems.{wanted_shows, wanted_holds}
 use Rattle.batch_laws.proofs.Reachability.{lower_is_earlier, earlier_is_lower}
 
-module _ (g : Graph) (graph : IsGraph g) (complete : IsComplete g) (numbers : List ℕ) (count : ℕ) (long : length numbers ≡ length g.vertices) (line : IsLine g (λ u. get_or numbers u 0) count) where
+module _ (g : Graph) (graph : IsGraph g) (complete : IsComplete g) (numbers : List ℕ) (count : ℕ)
+    (long : length numbers ≡ length g.vertices) (line : IsLine g (λ u. get_or numbers u 0) count) where
   batches_long : length (lists_of numbers count g.vertices) ≡ count
   batches_long = length-map (range_with_len 0 count) (numbered numbers g.vertices) ∙ length-range_with_len 0 count
 
@@ -37,7 +38,8 @@ module _ (g : Graph) (graph : IsGraph g) (complete : IsComplete g) (numbers : Li
             let inside : place.0 < length numbers = omega (arith, slice_get_within g.vertices place.0 a place.1) in
             (place.0, place.1, eqb-true (get_or numbers place.0 0) c (sym (get_or-map (λ n. n == c) numbers place.0 0 false inside) ∙ place.2))
         | inr past ↦
-            let none : get_or (lists_of numbers count g.vertices) c [] ≡ [] = get_or_past (lists_of numbers count g.vertices) c [] (omega (arith, batches_long)) in
+            let none : get_or (lists_of numbers count g.vertices) c [] ≡ [] =
+            get_or_past (lists_of numbers count g.vertices) c [] (omega (arith, batches_long)) in
             let held : holds a [] ≡ true = rw none at stands in
             absurd (cc)
       ]
@@ -67,7 +69,8 @@ module _ (g : Graph) (graph : IsGraph g) (complete : IsComplete g) (numbers : Li
         let below : c < count = omega (arith, batches_long) in
         let u = line.used c below in
         let d : Tx = record { client = 0; number = 0; payload = 0 } in
-        let stand : StandsIn (lists_of numbers count g.vertices) (get_or numbers u.0 0) (get_or g.vertices u.0 d) = stands u.0 (get_or g.vertices u.0 d) (slice_get-get_or g.vertices u.0 d u.1) in
+        let stand : StandsIn (lists_of numbers count g.vertices) (get_or numbers u.0 0) (get_or g.vertices u.0 d) =
+        stands u.0 (get_or g.vertices u.0 d) (slice_get-get_or g.vertices u.0 d u.1) in
         (get_or g.vertices u.0 d, subst (λ (k : ℕ). StandsIn (lists_of numbers count g.vertices) k (get_or g.vertices u.0 d)) u.2 stand);
     each = λ u a at.
         let below : get_or numbers u 0 < count = line.below u (slice_get_within g.vertices u a at) in
@@ -86,6 +89,7 @@ module _ (g : Graph) (graph : IsGraph g) (complete : IsComplete g) (numbers : Li
         let left : get_or numbers u 0 ≡ i = number_is u i a one here in
         let right : get_or numbers v 0 ≡ j = number_is v j b other there in (
           (λ less. lower_is_earlier g (λ k. get_or numbers k 0) graph complete line.numbering u v from to (omega arith)),
-          (λ early. (let less : get_or numbers u 0 < get_or numbers v 0 = earlier_is_lower g (λ k. get_or numbers k 0) graph line.numbering u v from to early in omega arith)),
+          (λ early. (let less : get_or numbers u 0 < get_or numbers v 0 =
+              earlier_is_lower g (λ k. get_or numbers k 0) graph line.numbering u v from to early in omega arith)),
         );
   }

@@ -59,7 +59,8 @@ module _ (g : Graph) (graph : IsGraph g) (reaches : ℕ → ℕ → Bool) (repor
   head_least : (u v : ℕ) → u < all → v < all → InOneBatch g u v → head_of reaches all u ≤ v
   head_least u v from to one =
       elim (cases_lt v (head_of reaches all u)) [
-        | inl below ↦ absurd (false≢true (sym (fails_before_first (both u) (range_with_len 0 all) v 0 below) ∙ ap (both u) (at v to) ∙ both_from u v from to one))
+        | inl below ↦
+            absurd (false≢true (sym (fails_before_first (both u) (range_with_len 0 all) v 0 below) ∙ ap (both u) (at v to) ∙ both_from u v from to one))
         | inr low ↦ low
       ]
 
@@ -122,8 +123,10 @@ module _ (g : Graph) (graph : IsGraph g) (reaches : ℕ → ℕ → Bool) (repor
   head_before : (u v : ℕ) → u < all → is_before (head_of reaches all u) v ≡ is_before u v
   head_before u v inside =
       let short = head_inside u inside in
-      ap (λ (n : ℕ). stands_before n (head_of reaches all (head_of reaches all u)) (reached_from reaches all v) (head_of reaches all v)) (sym (same_reach u (head_of reaches all u) inside short (with_head u inside)))
-      ∙ ap (λ (h : ℕ). stands_before (reached_from reaches all u) h (reached_from reaches all v) (head_of reaches all v)) (sym (same_head u (head_of reaches all u) inside short (with_head u inside)))
+      ap (λ (n : ℕ). stands_before n (head_of reaches all (head_of reaches all u)) (reached_from reaches all v) (head_of reaches all v))
+      (sym (same_reach u (head_of reaches all u) inside short (with_head u inside)))
+      ∙ ap (λ (h : ℕ). stands_before (reached_from reaches all u) h (reached_from reaches all v) (head_of reaches all v))
+      (sym (same_head u (head_of reaches all u) inside short (with_head u inside)))
 
   -- the test of `heads_before`
   abbrev counted : ℕ → ℕ → Bool
@@ -142,19 +145,22 @@ module _ (g : Graph) (graph : IsGraph g) (reaches : ℕ → ℕ → Bool) (repor
       (head_of reaches all u) (omega (arith, range_long))
       (ap (counted u) (at (head_of reaches all u) short) ∙ not_its_own u inside)
       (ap (counted v) (at (head_of reaches all u) short)
-      ∙ and_from (head_of reaches all (head_of reaches all u) == head_of reaches all u) (is_before (head_of reaches all u) v) (head_is_head u inside) (head_before u v inside ∙ before))
+      ∙ and_from (head_of reaches all (head_of reaches all u) == head_of reaches all u) (is_before (head_of reaches all u) v)
+      (head_is_head u inside) (head_before u v inside ∙ before))
     where
       onward : (w : ℕ) → counted u w ≡ true → counted v w ≡ true
       onward w is =
           let parts = and_parts (head_of reaches all w == w) (is_before w u) is in
           and_from (head_of reaches all w == w) (is_before w v) parts.0
-          (before_join (reached_from reaches all w) (head_of reaches all w) (reached_from reaches all u) (head_of reaches all u) (reached_from reaches all v) (head_of reaches all v) parts.1 before)
+          (before_join (reached_from reaches all w) (head_of reaches all w) (reached_from reaches all u) (head_of reaches all u)
+          (reached_from reaches all v) (head_of reaches all v) parts.1 before)
 
   pub below_heads : (u : ℕ) → u < all → number_by_reach reaches all u < heads_in reaches all
   below_heads u inside =
       let short = head_inside u inside in
       count_less_at (counted u) (λ w. head_of reaches all w == w) (range_with_len 0 all) 0
-      (λ i below is. (and_parts (head_of reaches all (get_or (range_with_len 0 all) i 0) == get_or (range_with_len 0 all) i 0) (is_before (get_or (range_with_len 0 all) i 0) u) is).0)
+      (λ i below is. (and_parts (head_of reaches all (get_or (range_with_len 0 all) i 0) == get_or (range_with_len 0 all) i 0)
+      (is_before (get_or (range_with_len 0 all) i 0) u) is).0)
       (head_of reaches all u) (omega (arith, range_long))
       (ap (counted u) (at (head_of reaches all u) short) ∙ not_its_own u inside)
       (ap (λ (w : ℕ). head_of reaches all w == w) (at (head_of reaches all u) short) ∙ head_is_head u inside)
@@ -164,8 +170,10 @@ module _ (g : Graph) (graph : IsGraph g) (reaches : ℕ → ℕ → Bool) (repor
       elim (cases_order (reached_from reaches all u) (reached_from reaches all v)) [
         | inl tie ↦ elim (cases_order (head_of reaches all u) (head_of reaches all v)) [
           | inl same ↦ absurd (differ (one_head u v from to same))
-          | inr (inl less) ↦ inl (before_by_head (reached_from reaches all u) (head_of reaches all u) (reached_from reaches all v) (head_of reaches all v) tie less)
-          | inr (inr more) ↦ inr (before_by_head (reached_from reaches all v) (head_of reaches all v) (reached_from reaches all u) (head_of reaches all u) (sym tie) more)
+          | inr (inl less) ↦
+              inl (before_by_head (reached_from reaches all u) (head_of reaches all u) (reached_from reaches all v) (head_of reaches all v) tie less)
+          | inr (inr more) ↦
+              inr (before_by_head (reached_from reaches all v) (head_of reaches all v) (reached_from reaches all u) (head_of reaches all u) (sym tie) more)
         ]
         | inr (inl less) ↦ inr (before_by_more (reached_from reaches all v) (head_of reaches all v) (reached_from reaches all u) (head_of reaches all u) less)
         | inr (inr more) ↦ inl (before_by_more (reached_from reaches all u) (head_of reaches all u) (reached_from reaches all v) (head_of reaches all v) more)
@@ -187,7 +195,8 @@ module _ (g : Graph) (graph : IsGraph g) (reaches : ℕ → ℕ → Bool) (repor
       elim (cases_Bool (reaches v u)) [
         | inl back ↦ (let same = same_number u v from to (walk, (report v u to from).0 back) in omega arith)
         | inr never ↦
-            let less = before_is_lower u v from (before_by_more (reached_from reaches all u) (head_of reaches all u) (reached_from reaches all v) (head_of reaches all v) (reach_less u v from to walk never)) in
+            let less = before_is_lower u v from (before_by_more (reached_from reaches all u) (head_of reaches all u)
+            (reached_from reaches all v) (head_of reaches all v) (reach_less u v from to walk never)) in
             omega arith
       ]
 

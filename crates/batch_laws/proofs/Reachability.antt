@@ -28,12 +28,14 @@ edge_inside g u v graph edge =
       | inl from ↦ elim (cases_lt v (length g.vertices)) [
         | inl to ↦ (from, to)
         | inr past ↦
-            let row : length (get_or g.edges u []) ≡ length g.vertices = All-get_or (λ (r : List Edge). length r ≡ length g.vertices) g.edges u [] (omega (arith, graph.rows)) graph.columns in
+            let row : length (get_or g.edges u []) ≡ length g.vertices =
+            All-get_or (λ (r : List Edge). length r ≡ length g.vertices) g.edges u [] (omega (arith, graph.rows)) graph.columns in
             absurd (cc (get_or_past (get_or g.edges u []) v Missing (omega arith), edge))
       ]
       | inr past ↦
           let none : get_or g.edges u [] ≡ [] = get_or_past g.edges u [] (omega (arith, graph.rows)) in
-          let missing : get_or (get_or g.edges u []) v Missing ≡ Missing = ap (λ (r : List Edge). get_or r v Missing) none ∙ get_or_past [] v Missing (omega arith) in
+          let missing : get_or (get_or g.edges u []) v Missing ≡ Missing =
+          ap (λ (r : List Edge). get_or r v Missing) none ∙ get_or_past [] v Missing (omega arith) in
           absurd (cc (missing, edge))
     ]
 
@@ -183,7 +185,8 @@ numbers_rise g number graph numbering u v walk =
     u v walk (omega arith)
 
 -- a lower number is that of an earlier batch
-pub lower_is_earlier : (g : Graph) (number : ℕ → ℕ) → IsGraph g → IsComplete g → IsNumbering g number → (u v : ℕ) → u < length g.vertices → v < length g.vertices → number u < number v → IsEarlier g u v
+pub lower_is_earlier : (g : Graph) (number : ℕ → ℕ) → IsGraph g → IsComplete g → IsNumbering g number → (u v : ℕ) → u < length g.vertices
+    → v < length g.vertices → number u < number v → IsEarlier g u v
 lower_is_earlier g number graph complete numbering u v from to lower =
     elim (in_line g graph complete u v from to) [
       | inl earlier ↦ earlier
@@ -195,7 +198,8 @@ lower_is_earlier g number graph complete numbering u v from to lower =
           absurd (omega arith)
     ]
 
-pub earlier_is_lower : (g : Graph) (number : ℕ → ℕ) → IsGraph g → IsNumbering g number → (u v : ℕ) → u < length g.vertices → v < length g.vertices → IsEarlier g u v → number u < number v
+pub earlier_is_lower : (g : Graph) (number : ℕ → ℕ) → IsGraph g → IsNumbering g number → (u v : ℕ) → u < length g.vertices
+    → v < length g.vertices → IsEarlier g u v → number u < number v
 earlier_is_lower g number graph numbering u v from to earlier =
     let rise : number u ≤ number v = numbers_rise g number graph numbering u v earlier.0 in
     elim (cases_eq (number u) (number v)) [
@@ -204,7 +208,8 @@ earlier_is_lower g number graph numbering u v from to earlier =
     ]
 
 -- Two lines of the same complete graph are equal.
-module _ (g : Graph) (graph : IsGraph g) (complete : IsComplete g) (one other : ℕ → ℕ) (count : ℕ) (first : IsLine g one count) (second : IsNumbering g other) where
+module _ (g : Graph) (graph : IsGraph g) (complete : IsComplete g) (one other : ℕ → ℕ) (count : ℕ) (first : IsLine g one count)
+    (second : IsNumbering g other) where
   no_higher : (c u : ℕ) → u < length g.vertices → one u ≡ c → c ≤ other u
   no_higher zero u inside is = omega arith
   no_higher (suc c) u inside is =
@@ -219,7 +224,8 @@ module _ (g : Graph) (graph : IsGraph g) (complete : IsComplete g) (one other : 
   pub line_is_low : (u : ℕ) → u < length g.vertices → one u ≤ other u
   line_is_low u inside = no_higher (one u) u inside refl
 
-module _ (g : Graph) (graph : IsGraph g) (complete : IsComplete g) (one other : ℕ → ℕ) (count many : ℕ) (first : IsLine g one count) (second : IsLine g other many) where
+module _ (g : Graph) (graph : IsGraph g) (complete : IsComplete g) (one other : ℕ → ℕ) (count many : ℕ) (first : IsLine g one count)
+    (second : IsLine g other many) where
   pub same_numbers : (u : ℕ) → u < length g.vertices → one u ≡ other u
   same_numbers u inside =
       let low = line_is_low g graph complete one other count first second.numbering u inside in

@@ -53,7 +53,9 @@ module _ (g : Graph) (graph : IsGraph g) (batches : List (List Tx)) (are : AreBa
           let other = stands_in v (get_or g.vertices v any_tx) (vertex v to) in
           elim (cases_lt (number_in v) (number_in u)) [
             | inl less ↦
-                let early = (are.earlier v u (number_in v) (number_in u) (get_or g.vertices v any_tx) (get_or g.vertices u any_tx) (vertex v to) (vertex u from) other.1 one.1).0 less in
+                let early =
+                (are.earlier v u (number_in v) (number_in u) (get_or g.vertices v any_tx) (get_or g.vertices u any_tx) (vertex v to)
+                (vertex u from) other.1 one.1).0 less in
                 absurd (early.1 (walk_edge (HasEdge g) u v edge))
             | inr low ↦ low
           ];
@@ -71,18 +73,21 @@ module _ (g : Graph) (graph : IsGraph g) (batches : List (List Tx)) (are : AreBa
 module _ (g : Graph) (graph : IsGraph g) (complete : IsComplete g) (one other : List (List Tx)) (first : AreBatches g one) (second : AreBatches g other) where
   as_many : length one ≡ length other
   as_many =
-      same_count g graph complete (number_in g graph one first) (number_in g graph other second) (length one) (length other) (are_line g graph one first) (are_line g graph other second)
+      same_count g graph complete (number_in g graph one first) (number_in g graph other second) (length one) (length other)
+      (are_line g graph one first) (are_line g graph other second)
 
   over_there : (k : ℕ) (t : Tx) → StandsIn one k t → StandsIn other k t
   over_there k t stands =
       let u = first.vertices k t stands in
       let left : number_in g graph one first u.0 ≡ k = number_in_is g graph one first u.0 k t u.1 stands in
       let same : number_in g graph one first u.0 ≡ number_in g graph other second u.0 =
-      same_numbers g graph complete (number_in g graph one first) (number_in g graph other second) (length one) (length other) (are_line g graph one first) (are_line g graph other second)
+      same_numbers g graph complete (number_in g graph one first) (number_in g graph other second) (length one) (length other)
+      (are_line g graph one first) (are_line g graph other second)
       u.0 (slice_get_within g.vertices u.0 t u.1) in
       subst (λ (n : ℕ). StandsIn other n t) (sym same ∙ left) (stands_in g graph other second u.0 t u.1).1
 
-pub same_batches : (g : Graph) (graph : IsGraph g) (complete : IsComplete g) (one other : List (List Tx)) (first : AreBatches g one) (second : AreBatches g other) → one ≡ other
+pub same_batches : (g : Graph) (graph : IsGraph g) (complete : IsComplete g) (one other : List (List Tx)) (first : AreBatches g one)
+    (second : AreBatches g other) → one ≡ other
 same_batches g graph complete one other first second =
     same_lists one other (as_many g graph complete one other first second)
     (λ k d inside.

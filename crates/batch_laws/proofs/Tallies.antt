@@ -10,7 +10,8 @@ point_at_most false b implies = omega arith
 point_at_most true b implies = let is : point b ≡ 1 = ap point (implies refl) in omega arith
 
 -- a test that implies another at each item passes at most as often
-pub count_within_at : {X : Type 0} (p q : X → Bool) (xs : List X) (d : X) → ((i : ℕ) → i < length xs → p (get_or xs i d) ≡ true → q (get_or xs i d) ≡ true) → count_by p xs ≤ count_by q xs
+pub count_within_at : {X : Type 0} (p q : X → Bool) (xs : List X) (d : X)
+    → ((i : ℕ) → i < length xs → p (get_or xs i d) ≡ true → q (get_or xs i d) ≡ true) → count_by p xs ≤ count_by q xs
 count_within_at p q [] d each = omega arith
 count_within_at p q (x ∷ xs) d each =
     let rest : count_by p xs ≤ count_by q xs = count_within_at p q xs d (λ i inside. each (suc i) (omega arith)) in
@@ -43,7 +44,8 @@ one_passes p [] apart = omega arith
 one_passes p (x ∷ xs) apart =
     elim (cases_Bool (p x)) [
       | inl is ↦
-          let rest : count_by p xs ≡ 0 = none_pass p xs (λ i inside. false_from_ne_true (p (get_or xs i 0)) (λ also. apart 0 (suc i) (omega arith) (omega arith) is also)) in
+          let rest : count_by p xs ≡ 0 =
+          none_pass p xs (λ i inside. false_from_ne_true (p (get_or xs i 0)) (λ also. apart 0 (suc i) (omega arith) (omega arith) is also)) in
           let first : point (p x) ≡ 1 = ap point is in
           omega (arith, count-cons p x xs)
       | inr isnt ↦
@@ -68,10 +70,13 @@ count_either r p q (x ∷ xs) either =
         ]
 
 -- items that pass with different numbers below c are at most c
-pub few_below : (f : ℕ → ℕ) (p : ℕ → Bool) (xs : List ℕ) → ((i j : ℕ) → i < j → j < length xs → p (get_or xs i 0) ≡ true → p (get_or xs j 0) ≡ true → f (get_or xs i 0) ≡ f (get_or xs j 0) → ⊥)
+pub few_below : (f : ℕ → ℕ) (p : ℕ → Bool) (xs : List ℕ)
+    → ((i j : ℕ) → i < j → j < length xs → p (get_or xs i 0) ≡ true → p (get_or xs j 0) ≡ true → f (get_or xs i 0) ≡ f (get_or xs j 0) → ⊥)
     → (c : ℕ) → count_by (λ x. p x && nat_lt (f x) c) xs ≤ c
 few_below f p xs apart zero =
-    let none : count_by (λ x. p x && nat_lt (f x) 0) xs ≡ 0 = none_pass (λ x. p x && nat_lt (f x) 0) xs (λ i inside. and_right (p (get_or xs i 0)) (nat_lt (f (get_or xs i 0)) 0) (le-ltb (f (get_or xs i 0)) 0 (omega arith))) in
+    let none : count_by (λ x. p x && nat_lt (f x) 0) xs ≡ 0 =
+    none_pass (λ x. p x && nat_lt (f x) 0) xs
+    (λ i inside. and_right (p (get_or xs i 0)) (nat_lt (f (get_or xs i 0)) 0) (le-ltb (f (get_or xs i 0)) 0 (omega arith))) in
     omega arith
 few_below f p xs apart (suc c) =
     let rest : count_by (λ x. p x && nat_lt (f x) c) xs ≤ c = few_below f p xs apart c in
@@ -92,7 +97,8 @@ few_below f p xs apart (suc c) =
     ]) in
     omega arith
 
-pub some_or_none : (p : ℕ → Bool) (xs : List ℕ) → ((i : ℕ) × (i < length xs) × (p (get_or xs i 0) ≡ true)) ⊎ ((i : ℕ) → i < length xs → p (get_or xs i 0) ≡ false)
+pub some_or_none : (p : ℕ → Bool) (xs : List ℕ)
+    → ((i : ℕ) × (i < length xs) × (p (get_or xs i 0) ≡ true)) ⊎ ((i : ℕ) → i < length xs → p (get_or xs i 0) ≡ false)
 some_or_none p [] = inr (λ i inside. absurd (omega arith))
 some_or_none p (x ∷ xs) =
     elim (cases_Bool (p x)) [

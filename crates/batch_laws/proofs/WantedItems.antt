@@ -8,7 +8,8 @@ use Rattle.seq_base.specs.Lists.{holds}
 use Rattle.seq_base.specs.Tx.{tx_eq, tx_eq_decides}
 use Rattle.majority_graph.specs.Graph.{wanted_of}
 
-pub wanted_shows : (ws : List Bool) (xs : List Tx) (t : Tx) → holds t (wanted_of ws xs) ≡ true → (k : ℕ) × (slice_get xs k ≡ Some t) × (get_or ws k false ≡ true)
+pub wanted_shows : (ws : List Bool) (xs : List Tx) (t : Tx) → holds t (wanted_of ws xs) ≡ true
+    → (k : ℕ) × (slice_get xs k ≡ Some t) × (get_or ws k false ≡ true)
 wanted_shows [] xs t held = absurd (cc)
 wanted_shows (w ∷ ws) [] t held = absurd (cc)
 wanted_shows (true ∷ ws) (x ∷ xs) t held =

@@ -71,7 +71,8 @@ apart (z ∷ xs) x (b ∷ before) y after same =
     ]
 
 -- a digest that is not found is no stored block's
-unfound : (store : List Block) (digest : Digest) → is_some (block_at store digest) ≡ false → (k : ℕ) (d : Block) → k < length store → block_digest (get_or store k d) ≢ digest
+unfound : (store : List Block) (digest : Digest) → is_some (block_at store digest) ≡ false → (k : ℕ) (d : Block) → k < length store
+    → block_digest (get_or store k d) ≢ digest
 unfound [] digest none k d below = absurd (omega arith)
 unfound (b ∷ store) digest none zero d below = λ same.
     let here : has_digest digest b ≡ true = (digest_eq_decides digest (block_digest b)).1 (sym same) in
@@ -100,7 +101,8 @@ pub clashes_parts : (first : Bool) (other : Bool) → cond first true other ≡ 
 clashes_parts true other none = absurd (cc)
 clashes_parts false other none = (refl, none)
 
-kept-push : (es : List (Digest × Block)) (digest : Digest) (block : Block) → AreKept es → IsWithin block → digest ≡ block_digest block → digest_eq digest first_digest ≡ false
+kept-push : (es : List (Digest × Block)) (digest : Digest) (block : Block) → AreKept es → IsWithin block → digest ≡ block_digest block
+    → digest_eq digest first_digest ≡ false
     → is_stored (blocks_of es) block.cert.block ≡ true → is_some (block_at (blocks_of es) digest) ≡ false → AreKept (es ++ (digest, block) ∷ [])
 kept-push es digest block kept within own not_first parent absent =
     let entry : Digest × Block = (digest, block) in

@@ -54,7 +54,8 @@ module _ (store : List Block) (is : IsStore store) where
   not_first a x found =
       let place = found_in (has_digest a) store x found in
       let own : a ≡ block_digest x = (digest_eq_decides a (block_digest x)).0 place.passes in
-      let inside : block_digest x ≢ first_digest = All-contains (λ b. block_digest b ≢ first_digest) store x is.not_first (contained (has_digest a) store x place) in
+      let inside : block_digest x ≢ first_digest =
+      All-contains (λ b. block_digest b ≢ first_digest) store x is.not_first (contained (has_digest a) store x place) in
       false_from_ne_true (digest_eq a first_digest) (λ same. inside (sym own ∙ (digest_eq_decides a first_digest).0 same))
 
   -- the parent of a block in a prefix of the store is in a shorter prefix
@@ -71,10 +72,12 @@ module _ (store : List Block) (is : IsStore store) where
       let other : digest_eq a first_digest ≡ false = not_first a block.0 block.1 in
       let in_prefix : is_some (block_at before a) ≡ true = ap (λ (t : Bool). t || is_some (block_at before a)) (sym other) ∙ stored in
       let found = there (block_at before a) in_prefix in
-      let whole : block_at store a ≡ Some found.0 = ap (λ (blocks : List Block). block_at blocks a) splits ∙ found_first (has_digest a) before rest found.0 found.1 in
+      let whole : block_at store a ≡ Some found.0 = ap (λ (blocks : List Block). block_at blocks a) splits
+      ∙ found_first (has_digest a) before rest found.0 found.1 in
       let same : found.0 ≡ block.0 = same_Some found.0 block.0 (sym whole ∙ block.1) in
       let place = found_in (has_digest a) before found.0 found.1 in
-      let apart : store ≡ place.before ++ found.0 ∷ (place.after ++ rest) = splits ∙ ap (λ (blocks : List Block). blocks ++ rest) place.is ∙ append_assoc place.before (found.0 ∷ place.after) rest in
+      let apart : store ≡ place.before ++ found.0 ∷ (place.after ++ rest) = splits ∙ ap (λ (blocks : List Block). blocks ++ rest) place.is
+      ∙ append_assoc place.before (found.0 ∷ place.after) rest in
       let after_it : is_stored place.before found.0.cert.block ≡ true = is.parents place.before found.0 (place.after ++ rest) apart in
       let is_parent : found.0.cert.block ≡ p = ap (λ (b : Block). b.cert.block) same ∙ block.2 in
       record {
@@ -86,7 +89,8 @@ module _ (store : List Block) (is : IsStore store) where
       }
 
   -- There are no more steps than stored blocks.
-  steps_within : (steps : ℕ) (before rest : List Block) (a b : Digest) → store ≡ before ++ rest → is_stored before a ≡ true → Leads store steps a b → steps ≤ length before
+  steps_within : (steps : ℕ) (before rest : List Block) (a b : Digest) → store ≡ before ++ rest → is_stored before a ≡ true
+      → Leads store steps a b → steps ≤ length before
   steps_within zero before rest a b splits stored path = omega arith
   steps_within (suc steps) before rest a b splits stored path =
       let next = parent_within before rest a path.0 splits stored path.1 in
@@ -99,7 +103,8 @@ module _ (store : List Block) (is : IsStore store) where
     | inr further ↦ by (parent_of store a) refl further (λ p reached. reaches_shows n p b reached)
   ]
     where
-      by : (o : Option Digest) → parent_of store a ≡ o → option_map_or (λ p. reaches n store p b) o false ≡ true → ((p : Digest) → reaches n store p b ≡ true → Extends store p b) → Extends store a b
+      by : (o : Option Digest) → parent_of store a ≡ o → option_map_or (λ p. reaches n store p b) o false ≡ true
+          → ((p : Digest) → reaches n store p b ≡ true → Extends store p b) → Extends store a b
       by None parent further rest = absurd (cc)
       by (Some p) parent further rest = (suc (rest p further).0, (p, parent, (rest p further).1))
 
@@ -108,20 +113,23 @@ module _ (store : List Block) (is : IsStore store) where
   reaches_from zero (suc steps) a b within path = absurd (omega arith)
   reaches_from (suc n) zero a b within path = or_left (digest_eq a b) _ ((digest_eq_decides a b).1 path)
   reaches_from (suc n) (suc steps) a b within path =
-      let further : option_map_or (λ p. reaches n store p b) (parent_of store a) false ≡ true = rw path.1 (reaches_from n steps path.0 b (omega arith) path.2) in
+      let further : option_map_or (λ p. reaches n store p b) (parent_of store a) false ≡ true =
+      rw path.1 (reaches_from n steps path.0 b (omega arith) path.2) in
       or_right (digest_eq a b) _ further
 
   whole_store : store ≡ store ++ []
   whole_store = sym (append-nil store)
 
-  pub extends_iff : (a b : Digest) → is_stored store a ≡ true → ((extends store a b ≡ true) → Extends store a b) × (Extends store a b → extends store a b ≡ true)
+  pub extends_iff : (a b : Digest) → is_stored store a ≡ true
+      → ((extends store a b ≡ true) → Extends store a b) × (Extends store a b → extends store a b ≡ true)
   extends_iff a b stored = (
     (λ yes. reaches_shows (length store) a b (and_parts (is_stored store a) (reaches (length store) store a b) yes).1),
     (λ path. and_from (is_stored store a) (reaches (length store) store a b) stored
         (reaches_from (length store) path.0 a b (steps_within path.0 store [] a b whole_store stored path.1) path.1)),
   )
 
-  follow-push : (first last next : Digest) (digests : List Digest) → Follow store first digests last → parent_of store next ≡ Some last → Follow store first (digests ++ next ∷ []) next
+  follow-push : (first last next : Digest) (digests : List Digest) → Follow store first digests last → parent_of store next ≡ Some last
+      → Follow store first (digests ++ next ∷ []) next
   follow-push first last next [] path parent = (parent ∙ ap (λ (d : Digest). Some d) (sym path), refl)
   follow-push first last next (d ∷ digests) path parent = (path.0, follow-push d last next digests path.1 parent)
 
@@ -137,7 +145,8 @@ module _ (store : List Block) (is : IsStore store) where
     | inl first ↦ or_left (digest_eq a first_digest) _ first
     | inr found ↦
         let block = there (block_at before a) found in
-        let whole : block_at store a ≡ Some block.0 = ap (λ (blocks : List Block). block_at blocks a) splits ∙ found_first (has_digest a) before rest block.0 block.1 in
+        let whole : block_at store a ≡ Some block.0 = ap (λ (blocks : List Block). block_at blocks a) splits
+        ∙ found_first (has_digest a) before rest block.0 block.1 in
         or_right (digest_eq a first_digest) _ (ap is_some whole)
   ]
 
@@ -153,9 +162,11 @@ module _ (store : List Block) (is : IsStore store) where
     where
       by : (o : Option Block) → block_at store first_digest ≡ o → parent_of store first_digest ≡ None
       by None absent = ap (option_map (λ (b : Block). b.cert.block)) absent
-      by (Some x) found = absurd (both_ways (digest_eq first_digest first_digest) (not_first first_digest x found) ((digest_eq_decides first_digest first_digest).1 refl))
+      by (Some x) found =
+          absurd (both_ways (digest_eq first_digest first_digest) (not_first first_digest x found) ((digest_eq_decides first_digest first_digest).1 refl))
 
-  follows : (n : ℕ) (before rest : List Block) (a : Digest) → store ≡ before ++ rest → is_stored before a ≡ true → length before ≤ n → Follow store first_digest (following n store a) a
+  follows : (n : ℕ) (before rest : List Block) (a : Digest) → store ≡ before ++ rest → is_stored before a ≡ true → length before ≤ n
+      → Follow store first_digest (following n store a) a
   follows zero [] rest a splits stored within = elim (or_cases (digest_eq a first_digest) false stored) [
     | inl first ↦ sym ((digest_eq_decides a first_digest).0 first)
     | inr absent ↦ absurd (cc)
@@ -172,18 +183,28 @@ module _ (store : List Block) (is : IsStore store) where
   pub chain_follows : (a : Digest) → is_stored store a ≡ true → Follow store first_digest (chain_of store a) a
   chain_follows a stored = follows (length store) store [] a whole_store stored (omega arith)
 
-pub stays : (store : List Block) (next : Block) (digest : Digest) (block : Block) → block_at store digest ≡ Some block → block_at (with_block next store) digest ≡ Some block
+pub stays : (store : List Block) (next : Block) (digest : Digest) (block : Block) → block_at store digest ≡ Some block
+    → block_at (with_block next store) digest ≡ Some block
 stays store next digest block found = elim (cases_Bool (is_some (block_at store (block_digest next)))) [
   | inl known ↦ rw known found
   | inr new ↦ rw new (found_first (has_digest digest) store (next ∷ []) block found)
 ]
 
-pub is_found : (store : List Block) (block : Block) → clashes store (block_digest block) block ≡ false → block_at (with_block block store) (block_digest block) ≡ Some block
-is_found store block alone = by (block_at store (block_digest block)) refl (clashes_parts (digest_eq (block_digest block) first_digest) (is_other (block_at store (block_digest block)) block) alone).1
+pub is_found : (store : List Block) (block : Block) → clashes store (block_digest block) block ≡ false
+    → block_at (with_block block store) (block_digest block) ≡ Some block
+is_found store block alone = by (block_at store (block_digest block)) refl
+    (clashes_parts (digest_eq (block_digest block) first_digest) (is_other (block_at store (block_digest block)) block) alone).1
   where
-    by : (o : Option Block) → block_at store (block_digest block) ≡ o → is_other (block_at store (block_digest block)) block ≡ false → block_at (with_block block store) (block_digest block) ≡ Some block
+    by : (o : Option Block) → block_at store (block_digest block) ≡ o → is_other (block_at store (block_digest block)) block ≡ false
+        → block_at (with_block block store) (block_digest block) ≡ Some block
     by None absent single =
-        rw (absent, find-append (has_digest (block_digest block)) store (block ∷ []), absent, (digest_eq_decides (block_digest block) (block_digest block)).1 refl) refl
+        rw (
+          absent,
+          find-append (has_digest (block_digest block)) store (block ∷ []),
+          absent,
+          (digest_eq_decides (block_digest block) (block_digest block)).1 refl,
+        )
+        refl
     by (Some b) found single =
         let same : b ≡ block = (block_eq_decides b block).0 (not-false (block_eq b block) (rw found at single)) in
         rw found (found ∙ ap (λ (x : Block). Some x) same)

@@ -63,7 +63,8 @@ module _ (s : Parameters) (valid : IsValid s) (faulty : ℕ → Bool) (arrivals 
             (λ sealed over honest. drawn sealed.order (over honest)) orders over.honest;
       }
     where
-      drawn : (order : LocalOrder) → IsDrawnOver s (take k chain) (arrivals order.replica) order → IsDrawn (placed_over s (take k chain) orders) (arrivals order.replica) order
+      drawn : (order : LocalOrder) → IsDrawnOver s (take k chain) (arrivals order.replica) order
+          → IsDrawn (placed_over s (take k chain) orders) (arrivals order.replica) order
       drawn order over = record { known = over.known; fresh = ap (λ (o : LocalOrder). o.fresh) over.is; late = ap (λ (o : LocalOrder). o.late) over.is }
 
   module _ (answers : Answers s) where
@@ -92,7 +93,8 @@ module _ (s : Parameters) (valid : IsValid s) (faulty : ℕ → Bool) (arrivals 
     pub used_forward : (number : ℕ) (t : Tx) → is_used (standing_of s (take number chain)) t ≡ true → IsProposedBefore s (placed s chain) number t
     used_forward number t is =
         let prefix : List BlockLists = map lists_in (take number chain) in
-        let found : IsUsed s prefix t = (answers.used_read prefix t).0 (sym (answers.stands.used prefix t (fresh_prefix s valid faulty arrivals chain blocks number)) ∙ is) in
+        let found : IsUsed s prefix t = (answers.used_read prefix t).0
+        (sym (answers.stands.used prefix t (fresh_prefix s valid faulty arrivals chain blocks number)) ∙ is) in
         let at = any_place (λ (g : Graph). Contains g.vertices t) (proposals s prefix) found in
         let own = place_proposal s (take number chain) at.0 at.1 at.2 in
         proposed_from number at.0 t at.1 own.0 (drop (suc at.0) prefix) own.2 own.1 at.3

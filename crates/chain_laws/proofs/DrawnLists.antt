@@ -56,7 +56,8 @@ turned_by_few : FewAreLeft → (s : Parameters) (faulty : ℕ → Bool) (arrival
     → without_earlier (map part orders) b a ≤ size_of s.n (λ r. not (honest_before faulty arrivals a b r))
     → without_earlier (map part orders) b a < threshold_of s
 turned_by_few left s faulty arrivals a b part orders valid few received turned =
-    let whole : size_of s.n (λ r. not (honest_before faulty arrivals a b r)) + size_of s.n (honest_before faulty arrivals a b) ≡ s.n = size_not s.n (honest_before faulty arrivals a b) in
+    let whole : size_of s.n (λ r. not (honest_before faulty arrivals a b r)) + size_of s.n (honest_before faulty arrivals a b) ≡ s.n =
+    size_not s.n (honest_before faulty arrivals a b) in
     let apart : size_of s.n (honest_before faulty arrivals a b) + size_of s.n faulty ≤ s.n = size_apart s.n faulty (λ r. is_before (arrivals r) a b) in
     let alongside : s.n - size_of s.n (honest_before faulty arrivals a b) < threshold_of s =
     left s (size_of s.n (honest_before faulty arrivals a b)) (size_of s.n faulty) valid few apart received.enough in
@@ -81,12 +82,15 @@ module _ (counted : DistinctAreCounted) (left : FewAreLeft) (s : Parameters) (fa
   pub few_fresh : block.used a ≡ false → without_earlier (fresh_lists block) b a < threshold_of s
   few_fresh unused =
       turned_by_few left s faulty arrivals a b (λ sealed. sealed.order.fresh) block.orders valid few received
-      (members_pass (λ (sealed : SealedOrder). sealed.order.replica) (λ (sealed : SealedOrder). sealed.order.fresh) (holds_without_earlier b a) counted s.n (λ r. not (honest_before faulty arrivals a b r)) block.orders is_block.replicas
+      (members_pass (λ (sealed : SealedOrder). sealed.order.replica) (λ (sealed : SealedOrder). sealed.order.fresh)
+      (holds_without_earlier b a) counted s.n (λ r. not (honest_before faulty arrivals a b r)) block.orders is_block.replicas
       (All-weaker (λ (sealed : SealedOrder). IsDrawnIfHonest faulty arrivals block sealed.order)
       (λ (sealed : SealedOrder). holds_without_earlier b a sealed.order.fresh ≡ true → not (honest_before faulty arrivals a b sealed.order.replica) ≡ true)
-      (λ sealed drawn_from. not_before faulty arrivals a b sealed.order.replica sealed.order.fresh (λ honest before. kept sealed.order (drawn_from honest) before)) block.orders is_block.honest))
+      (λ sealed drawn_from. not_before faulty arrivals a b sealed.order.replica sealed.order.fresh
+      (λ honest before. kept sealed.order (drawn_from honest) before)) block.orders is_block.honest))
     where
-      kept : (order : LocalOrder) → IsDrawn block (arrivals order.replica) order → is_before (arrivals order.replica) a b ≡ true → holds_without_earlier b a order.fresh ≡ false
+      kept : (order : LocalOrder) → IsDrawn block (arrivals order.replica) order → is_before (arrivals order.replica) a b ≡ true
+          → holds_without_earlier b a order.fresh ≡ false
       kept order is before =
           ap (holds_without_earlier b a) is.fresh
           ∙ drawn_is_before a b (λ t. not (block.used t)) 128 is.known (arrivals order.replica) apart (ap not unused) before
@@ -94,12 +98,15 @@ module _ (counted : DistinctAreCounted) (left : FewAreLeft) (s : Parameters) (fa
   pub few_late : block.waiting a ≡ true → without_earlier (late_lists block) b a < threshold_of s
   few_late waits =
       turned_by_few left s faulty arrivals a b (λ sealed. sealed.order.late) block.orders valid few received
-      (members_pass (λ (sealed : SealedOrder). sealed.order.replica) (λ (sealed : SealedOrder). sealed.order.late) (holds_without_earlier b a) counted s.n (λ r. not (honest_before faulty arrivals a b r)) block.orders is_block.replicas
+      (members_pass (λ (sealed : SealedOrder). sealed.order.replica) (λ (sealed : SealedOrder). sealed.order.late)
+      (holds_without_earlier b a) counted s.n (λ r. not (honest_before faulty arrivals a b r)) block.orders is_block.replicas
       (All-weaker (λ (sealed : SealedOrder). IsDrawnIfHonest faulty arrivals block sealed.order)
       (λ (sealed : SealedOrder). holds_without_earlier b a sealed.order.late ≡ true → not (honest_before faulty arrivals a b sealed.order.replica) ≡ true)
-      (λ sealed drawn_from. not_before faulty arrivals a b sealed.order.replica sealed.order.late (λ honest before. kept sealed.order (drawn_from honest) before)) block.orders is_block.honest))
+      (λ sealed drawn_from. not_before faulty arrivals a b sealed.order.replica sealed.order.late
+      (λ honest before. kept sealed.order (drawn_from honest) before)) block.orders is_block.honest))
     where
-      kept : (order : LocalOrder) → IsDrawn block (arrivals order.replica) order → is_before (arrivals order.replica) a b ≡ true → holds_without_earlier b a order.late ≡ false
+      kept : (order : LocalOrder) → IsDrawn block (arrivals order.replica) order → is_before (arrivals order.replica) a b ≡ true
+          → holds_without_earlier b a order.late ≡ false
       kept order is before =
           ap (holds_without_earlier b a) is.late
           ∙ drawn_is_before a b block.waiting 256 is.known (arrivals order.replica) apart waits before

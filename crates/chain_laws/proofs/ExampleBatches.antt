@@ -68,8 +68,16 @@ kept_is_held : (t : Tx) → IsKept five lists t → holds t both ≡ true
 kept_is_held t kept =
     let many : threshold_of five ≤ listed lists t = kept.candidate in
     listed_has (λ (x : Tx). holds x both ≡ true) lists t
-    (All-from_recursion (λ (list : List Tx). All (λ (x : Tx). holds x both ≡ true) list) lists
-    (in_both, (in_both, (All-from_recursion (λ (x : Tx). holds x both ≡ true) (first ∷ []) (refl, tt), (All-from_recursion (λ (x : Tx). holds x both ≡ true) (second ∷ first ∷ []) (refl, (refl, tt)), tt)))))
+    (All-from_recursion (λ (list : List Tx). All (λ (x : Tx). holds x both ≡ true) list) lists (
+      in_both,
+      (
+        in_both,
+        (
+          All-from_recursion (λ (x : Tx). holds x both ≡ true) (first ∷ []) (refl, tt),
+          (All-from_recursion (λ (x : Tx). holds x both ≡ true) (second ∷ first ∷ []) (refl, (refl, tt)), tt),
+        ),
+      ),
+    ))
     (omega (arith, threshold))
   where
     in_both : All (λ (x : Tx). holds x both ≡ true) both

@@ -34,7 +34,8 @@ joined_at (x ∷ finals) zero i batches t found stands =
 joined_at (x ∷ finals) (suc number) i batches t found stands =
     let there : StandsIn (batch_list finals) (starts finals number + i) t = joined_at finals number i batches t found stands in
     let place : length x + (starts finals number + i) ≡ length x + starts finals number + i = omega arith in
-    subst (λ (k : ℕ). StandsIn (batch_list (x ∷ finals)) k t) place (ap (holds t) (get_or-append-add x (batch_list finals) (starts finals number + i) []) ∙ there)
+    subst (λ (k : ℕ). StandsIn (batch_list (x ∷ finals)) k t) place
+    (ap (holds t) (get_or-append-add x (batch_list finals) (starts finals number + i) []) ∙ there)
 
 -- the origin of a batch of the joint list
 pub record ComesFrom (finals : List (List (List Tx))) (j : ℕ) (t : Tx) : Type 0 where
@@ -55,7 +56,8 @@ comes_from (x ∷ finals) j t stands =
           record { number = 0; batches = x; found = refl; batch = j; stands = here; place = (omega arith) }
       | inr more ↦
           let split : j ≡ length x + (j - length x) = omega arith in
-          let moved : StandsIn (batch_list (x ∷ finals)) (length x + (j - length x)) t = subst (λ (k : ℕ). StandsIn (batch_list (x ∷ finals)) k t) split stands in
+          let moved : StandsIn (batch_list (x ∷ finals)) (length x + (j - length x)) t =
+          subst (λ (k : ℕ). StandsIn (batch_list (x ∷ finals)) k t) split stands in
           let there : StandsIn (batch_list finals) (j - length x) t = sym (ap (holds t) (get_or-append-add x (batch_list finals) (j - length x) [])) ∙ moved in
           let rest : ComesFrom finals (j - length x) t = comes_from finals (j - length x) t there in
           let place : starts finals rest.number + rest.batch ≡ j - length x = rest.place in
@@ -63,7 +65,8 @@ comes_from (x ∷ finals) j t stands =
     ]
 
 -- an earlier proposal ends before a later one starts
-ends_before : (finals : List (List (List Tx))) (one other : ℕ) (batches : List (List Tx)) → one < other → slice_get finals one ≡ Some batches → starts finals one + length batches ≤ starts finals other
+ends_before : (finals : List (List (List Tx))) (one other : ℕ) (batches : List (List Tx)) → one < other
+    → slice_get finals one ≡ Some batches → starts finals one + length batches ≤ starts finals other
 unfolding starts
 ends_before [] one other batches less found = absurd (cc)
 ends_before (x ∷ finals) zero zero batches less found = absurd (omega arith)
@@ -75,11 +78,17 @@ ends_before (x ∷ finals) (suc one) (suc other) batches less found =
 
 pub no_later_in_one_list : (finals : List (List (List Tx))) (j : ℕ) (a b : Tx) (from : ComesFrom finals j b) → StandsNoLater finals a from.number from.batch
     → (i : ℕ) × StandsIn (batch_list finals) i a × (i ≤ j)
-no_later_in_one_list finals j a b from before = (starts finals before.proposal + before.place, joined_at finals before.proposal before.place before.batches a before.found before.stands, in_order before.order)
+no_later_in_one_list finals j a b from before = (
+  starts finals before.proposal + before.place,
+  joined_at finals before.proposal before.place before.batches a before.found before.stands,
+  in_order before.order,
+)
   where
-    in_order : (before.proposal < from.number) ⊎ ((before.proposal ≡ from.number) × (before.place ≤ from.batch)) → starts finals before.proposal + before.place ≤ j
+    in_order : (before.proposal < from.number) ⊎ ((before.proposal ≡ from.number) × (before.place ≤ from.batch))
+        → starts finals before.proposal + before.place ≤ j
     in_order (inl less) =
-        let ended : starts finals before.proposal + length before.batches ≤ starts finals from.number = ends_before finals before.proposal from.number before.batches less before.found in
+        let ended : starts finals before.proposal + length before.batches ≤ starts finals from.number =
+        ends_before finals before.proposal from.number before.batches less before.found in
         let within : before.place < length before.batches = within_list before.batches before.place a before.stands in
         let place : starts finals from.number + from.batch ≡ j = from.place in
         omega arith

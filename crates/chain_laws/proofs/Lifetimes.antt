@@ -30,9 +30,11 @@ pub record EdgesStand (s : Parameters) : Type 0 where
 
 -- few lists of each block reverse a and b until one gives the edge
 FewUntilGiven : Parameters → List (List (List Tx)) → Tx → Tx → Type 0
-FewUntilGiven s blocks a b = (k : ℕ) (lists : List (List Tx)) → slice_get blocks k ≡ Some lists → first_edge s (take k blocks) a b ≡ Missing → without_earlier lists b a < threshold_of s
+FewUntilGiven s blocks a b = (k : ℕ) (lists : List (List Tx)) → slice_get blocks k ≡ Some lists → first_edge s (take k blocks) a b ≡ Missing
+    → without_earlier lists b a < threshold_of s
 
-few_after : (s : Parameters) (lists : List (List Tx)) (blocks : List (List (List Tx))) (a b : Tx) → FewUntilGiven s (lists ∷ blocks) a b → edge_between s lists a b ≡ Missing → FewUntilGiven s blocks a b
+few_after : (s : Parameters) (lists : List (List Tx)) (blocks : List (List (List Tx))) (a b : Tx) → FewUntilGiven s (lists ∷ blocks) a b
+    → edge_between s lists a b ≡ Missing → FewUntilGiven s blocks a b
 unfolding FewUntilGiven
 few_after s lists blocks a b few none k found at missing =
     few (suc k) found at (ap (λ (e : Edge). or_edge e (first_edge s (take k blocks) a b)) none ∙ missing)
@@ -60,7 +62,8 @@ module _ (s : Parameters) (edges : EdgesStand s) where
       go Missing is = absurd (given is)
 
 -- an element of a list of images is the image of the element at that position
-image_at : (blocks : List Placed) (k : ℕ) (lists : List (List Tx)) → slice_get (map late_lists blocks) k ≡ Some lists → (block : Placed) × (slice_get blocks k ≡ Some block) × (lists ≡ late_lists block)
+image_at : (blocks : List Placed) (k : ℕ) (lists : List (List Tx)) → slice_get (map late_lists blocks) k ≡ Some lists
+    → (block : Placed) × (slice_get blocks k ≡ Some block) × (lists ≡ late_lists block)
 image_at [] k lists at = absurd (cc)
 image_at (block ∷ blocks) zero lists at = (block, refl, sym (same_Some (late_lists block) lists at))
 image_at (block ∷ blocks) (suc k) lists at = image_at blocks k lists at
@@ -77,13 +80,15 @@ module _ (s : Parameters) (edges : EdgesStand s) (first : Placed) (later : List 
     (waits : WaitsWhileMissing s first later a b) where
   few_until_given : FewUntilGiven s (lists_of_lifetime first later) a b
   unfolding FewUntilGiven
-  few_until_given zero lists at missing = subst (λ (x : List (List Tx)). without_earlier x b a < threshold_of s) (same_Some (fresh_lists first) lists at) few_fresh
+  few_until_given zero lists at missing =
+      subst (λ (x : List (List Tx)). without_earlier x b a < threshold_of s) (same_Some (fresh_lists first) lists at) few_fresh
   few_until_given (suc k) lists at missing =
       let found = image_at later k lists at in
       let still : first_edge s (lists_of_lifetime first (take k later)) a b ≡ Missing =
       ap (λ (blocks : List (List (List Tx))). first_edge s (fresh_lists first ∷ blocks) a b) (sym (take-map late_lists k later)) ∙ missing in
       subst (λ (x : List (List Tx)). without_earlier x b a < threshold_of s) (sym found.2)
-      (block_at (λ (block : Placed). block.waiting a ≡ true → without_earlier (late_lists block) b a < threshold_of s) later k found.0 few_late found.1 (waits k found.0 found.1 still))
+      (block_at (λ (block : Placed). block.waiting a ≡ true → without_earlier (late_lists block) b a < threshold_of s) later k found.0
+      few_late found.1 (waits k found.0 found.1 still))
 
   pub lifetime_gives_none_back : first_edge s (lists_of_lifetime first later) b a ≢ To
   lifetime_gives_none_back is = none_back s edges (lists_of_lifetime first later) a b few_until_given is
@@ -94,7 +99,8 @@ module _ (s : Parameters) (edges : EdgesStand s) (first : Placed) (later : List 
 -- Where the edge of the pair, if there is one, leads from a to b.
 module _ (s : Parameters) (first : Placed) (later : List Placed) (a b : Tx)
     (forward : first_edge s (lists_of_lifetime first later) a b ≢ Missing → first_edge s (lists_of_lifetime first later) a b ≡ To) where
-  walk_forward : (g : Graph) (u v : ℕ) → IsCompleteProposal s first later g → slice_get g.vertices u ≡ Some a → slice_get g.vertices v ≡ Some b → Walks (HasEdge g) u v
+  walk_forward : (g : Graph) (u v : ℕ) → IsCompleteProposal s first later g → slice_get g.vertices u ≡ Some a
+      → slice_get g.vertices v ≡ Some b → Walks (HasEdge g) u v
   walk_forward g u v proposal one other =
       elim (cases_eq u v) [
         | inl same ↦ walk_same (HasEdge g) u v same
@@ -104,11 +110,14 @@ module _ (s : Parameters) (first : Placed) (later : List Placed) (a b : Tx)
             walk_edge (HasEdge g) u v (here ∙ forward (λ none. given (here ∙ none)))
       ]
 
-  pub fair_at : (g : Graph) (batches : List (List Tx)) (u v i j : ℕ) → IsCompleteProposal s first later g → AreBatches g batches → slice_get g.vertices u ≡ Some a → slice_get g.vertices v ≡ Some b
+  pub fair_at : (g : Graph) (batches : List (List Tx)) (u v i j : ℕ) → IsCompleteProposal s first later g → AreBatches g batches
+      → slice_get g.vertices u ≡ Some a → slice_get g.vertices v ≡ Some b
       → StandsIn batches i a → StandsIn batches j b → i ≤ j
-  fair_at g batches u v i j proposal batched one other here there = not_later g batches u v i j a b batched one other here there (walk_forward g u v proposal one other)
+  fair_at g batches u v i j proposal batched one other here there =
+      not_later g batches u v i j a b batched one other here there (walk_forward g u v proposal one other)
 
-  pub fair_in_batches : (g : Graph) (batches : List (List Tx)) → IsCompleteProposal s first later g → AreBatches g batches → IsKept s (fresh_lists first) a → IsKept s (fresh_lists first) b
+  pub fair_in_batches : (g : Graph) (batches : List (List Tx)) → IsCompleteProposal s first later g → AreBatches g batches
+      → IsKept s (fresh_lists first) a → IsKept s (fresh_lists first) b
       → (i j : ℕ) × StandsIn batches i a × StandsIn batches j b × (i ≤ j)
   fair_in_batches g batches proposal batched one other =
       let u = holds_place g.vertices a ((proposal.kept.each a).1 one) in

@@ -71,7 +71,8 @@ module _ {X Y : Type 0} (replica : X → ℕ) (part : X → Y) (test : Y → Boo
   replicas_passing : (n : ℕ) (xs : List X) → AreReplicas n (map replica xs) → AreReplicas n (map replica (passing xs))
   replicas_passing n xs replicas = record {
     distinct = distinct_passing xs replicas.distinct;
-    below = All-map (λ (r : ℕ). r < n) replica (passing xs) (All-filter (λ x. test (part x)) (λ x. replica x < n) xs (all_of_map (λ (r : ℕ). r < n) replica xs replicas.below));
+    below = All-map (λ (r : ℕ). r < n) replica (passing xs)
+        (All-filter (λ x. test (part x)) (λ x. replica x < n) xs (all_of_map (λ (r : ℕ). r < n) replica xs replicas.below));
   }
 
   count_passing : (xs : List X) → count_by test (map part xs) ≡ length (passing xs)
@@ -83,13 +84,15 @@ module _ {X Y : Type 0} (replica : X → ℕ) (part : X → Y) (test : Y → Boo
         | inr fails ↦ rw fails (omega (arith, one, ap point fails, count_passing xs))
       ]
 
-  pub members_pass : DistinctAreCounted → (n : ℕ) (set : ℕ → Bool) (xs : List X) → AreReplicas n (map replica xs) → All (λ x. test (part x) ≡ true → set (replica x) ≡ true) xs
+  pub members_pass : DistinctAreCounted → (n : ℕ) (set : ℕ → Bool) (xs : List X) → AreReplicas n (map replica xs)
+      → All (λ x. test (part x) ≡ true → set (replica x) ≡ true) xs
       → count_by test (map part xs) ≤ size_of n set
   members_pass counted n set xs replicas member =
       let named = counted n (map replica (passing xs)) (replicas_passing n xs replicas) in
       let members : All (λ r. set r ≡ true) (map replica (passing xs)) =
       All-map (λ (r : ℕ). set r ≡ true) replica (passing xs)
-      (λ k d inside. All-filter (λ x. test (part x)) (λ x. test (part x) ≡ true → set (replica x) ≡ true) xs member k d inside (filter_passes (λ x. test (part x)) xs k d inside)) in
+      (λ k d inside. All-filter (λ x. test (part x)) (λ x. test (part x) ≡ true → set (replica x) ≡ true) xs member k d inside
+      (filter_passes (λ x. test (part x)) xs k d inside)) in
       let within = size_within n (is_among (map replica (passing xs))) set
       (λ r below among. All-contains (λ (q : ℕ). set q ≡ true) (map replica (passing xs)) r members (Contains-from_among (map replica (passing xs)) r among)) in
       omega (arith, named, within, count_passing xs, length-map (passing xs) replica)

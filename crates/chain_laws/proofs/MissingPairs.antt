@@ -29,7 +29,8 @@ use Rattle.chain_laws.proofs.ChainPremises.{Answers, kept_list}
 abbrev cut_graph : Parameters → Chain → ℕ → ℕ → List SealedOrder → Graph
 cut_graph s chain k rest orders = graph_with s (lists_in orders) (drop (suc k) (map lists_in (take (k + 1 + rest) chain)))
 
-module _ (s : Parameters) (valid : IsValid s) (faulty : ℕ → Bool) (arrivals : Arrivals) (chain : Chain) (blocks : AreBlocks s faulty arrivals chain) (answers : Answers s)
+module _ (s : Parameters) (valid : IsValid s) (faulty : ℕ → Bool) (arrivals : Arrivals) (chain : Chain)
+    (blocks : AreBlocks s faulty arrivals chain) (answers : Answers s)
     (k rest : ℕ) (orders : List SealedOrder) (stands : slice_get chain k ≡ Some orders) where
   abbrev g : Graph
   g = cut_graph s chain k rest orders
@@ -65,7 +66,8 @@ module _ (s : Parameters) (valid : IsValid s) (faulty : ℕ → Bool) (arrivals 
         missing = sym (edge_is u v t other pair.from there) ∙ pair.missing;
       }
 
-  pub missing_backward : (t other : Tx) → IsKept s (fresh_in orders) t → IsKept s (fresh_in orders) other → t ≢ other → first_edge s lifetime t other ≡ Missing → Waits g t
+  pub missing_backward : (t other : Tx) → IsKept s (fresh_in orders) t → IsKept s (fresh_in orders) other → t ≢ other
+      → first_edge s lifetime t other ≡ Missing → Waits g t
   missing_backward t other one two differs missing =
       let u : (p : ℕ) × (slice_get g.vertices p ≡ Some t) = holds_place g.vertices t ((kept.each t).1 one) in
       let v : (p : ℕ) × (slice_get g.vertices p ≡ Some other) = holds_place g.vertices other ((kept.each other).1 two) in (
@@ -79,9 +81,11 @@ module _ (s : Parameters) (valid : IsValid s) (faulty : ℕ → Bool) (arrivals 
         },
       )
 
-module _ (s : Parameters) (valid : IsValid s) (faulty : ℕ → Bool) (arrivals : Arrivals) (chain : Chain) (blocks : AreBlocks s faulty arrivals chain) (answers : Answers s) where
+module _ (s : Parameters) (valid : IsValid s) (faulty : ℕ → Bool) (arrivals : Arrivals) (chain : Chain)
+    (blocks : AreBlocks s faulty arrivals chain) (answers : Answers s) where
   -- a transaction of a missing pair of a proposal of the prefix
-  missing_from : (number k : ℕ) (t : Tx) (g : Graph) (orders : List SealedOrder) → g ≡ graph_with s (lists_in orders) (drop (suc k) (map lists_in (take number chain)))
+  missing_from : (number k : ℕ) (t : Tx) (g : Graph) (orders : List SealedOrder)
+      → g ≡ graph_with s (lists_in orders) (drop (suc k) (map lists_in (take number chain)))
       → slice_get (take number chain) k ≡ Some orders → Waits g t → IsMissingBefore s (placed s chain) number t
   missing_from number k t g orders is own waits =
       let there : (k < number) × (slice_get chain k ≡ Some orders) = place_in_prefix chain number k orders own in

@@ -42,30 +42,37 @@ listed_has P (list ∷ lists) t all some =
     ]
 
 -- what a block keeps is not used before it
-kept_is_unused : (s : Parameters) (blocks : List Placed) (number : ℕ) (block : Placed) (t : Tx) → FreshAreUnused blocks → slice_get blocks number ≡ Some block → IsKept s (fresh_lists block) t → block.used t ≡ false
+kept_is_unused : (s : Parameters) (blocks : List Placed) (number : ℕ) (block : Placed) (t : Tx) → FreshAreUnused blocks
+    → slice_get blocks number ≡ Some block → IsKept s (fresh_lists block) t → block.used t ≡ false
 kept_is_unused s blocks number block t unused stands kept =
     let candidate : threshold_of s ≤ listed (fresh_lists block) t = kept.candidate in
     listed_has (λ (x : Tx). block.used x ≡ false) (fresh_lists block) t
-    (block_at (λ (x : Placed). All (λ (list : List Tx). All (λ (y : Tx). x.used y ≡ false) list) (fresh_lists x)) blocks number block unused stands) (omega arith)
+    (block_at (λ (x : Placed). All (λ (list : List Tx). All (λ (y : Tx). x.used y ≡ false) list) (fresh_lists x)) blocks number block unused stands)
+    (omega arith)
 
 -- The transactions of each batch are ascending.
-joined_rise : (finals : List (List (List Tx))) → ((number : ℕ) (batches : List (List Tx)) → slice_get finals number ≡ Some batches → All (IsStrictlySortedBy tx_cmp) batches)
+joined_rise : (finals : List (List (List Tx)))
+    → ((number : ℕ) (batches : List (List Tx)) → slice_get finals number ≡ Some batches → All (IsStrictlySortedBy tx_cmp) batches)
     → All (IsStrictlySortedBy tx_cmp) (batch_list finals)
 joined_rise [] each = All-nil (IsStrictlySortedBy tx_cmp)
 joined_rise (batches ∷ finals) each =
-    All-append (IsStrictlySortedBy tx_cmp) batches (batch_list finals) (each 0 batches refl) (joined_rise finals (λ number more found. each (suc number) more found))
+    All-append (IsStrictlySortedBy tx_cmp) batches (batch_list finals) (each 0 batches refl)
+    (joined_rise finals (λ number more found. each (suc number) more found))
 
-pub each_rises : (s : Parameters) (blocks : List Placed) (finals : List (List (List Tx))) → IsFinalised s blocks finals → All (IsStrictlySortedBy tx_cmp) (batch_list finals)
+pub each_rises : (s : Parameters) (blocks : List Placed) (finals : List (List (List Tx))) → IsFinalised s blocks finals
+    → All (IsStrictlySortedBy tx_cmp) (batch_list finals)
 each_rises s blocks finals final = joined_rise finals (λ number batches found. (final.each number batches found).batched.ascending)
 
 -- a block proposes what the joint list holds
-pub held_is_proposed : (s : Parameters) (blocks : List Placed) (finals : List (List (List Tx))) (j : ℕ) (t : Tx) → IsFinalised s blocks finals → StandsIn (batch_list finals) j t
+pub held_is_proposed : (s : Parameters) (blocks : List Placed) (finals : List (List (List Tx))) (j : ℕ) (t : Tx)
+    → IsFinalised s blocks finals → StandsIn (batch_list finals) j t
     → (number : ℕ) × Proposes s blocks number t
 held_is_proposed s blocks finals j t final here =
     let from : ComesFrom finals j t = comes_from finals j t here in
     (from.number, finals_are_kept s blocks from.number from.batch from.batches t (final.each from.number from.batches from.found) from.stands)
 
-module _ (s : Parameters) (faulty : ℕ → Bool) (arrivals : Arrivals) (blocks : List Placed) (chain : IsChain s faulty arrivals blocks) (unused : FreshAreUnused blocks) where
+module _ (s : Parameters) (faulty : ℕ → Bool) (arrivals : Arrivals) (blocks : List Placed) (chain : IsChain s faulty arrivals blocks)
+    (unused : FreshAreUnused blocks) where
   not_again : (one other : ℕ) (t : Tx) → Proposes s blocks one t → Proposes s blocks other t → one < other → ⊥
   not_again one other t first again less =
       let free : again.block.used t ≡ false = kept_is_unused s blocks other again.block t unused again.stands again.kept in
@@ -94,7 +101,9 @@ module _ (s : Parameters) (faulty : ℕ → Bool) (arrivals : Arrivals) (blocks 
         let stands : StandsIn one.batches other.batch t = subst (λ (b : List (List Tx)). StandsIn b other.batch t) same other.stands in
         let are : AreFinal s blocks one.number one.batches = final.each one.number one.batches one.found in
         let u = are.batched.vertices one.batch t one.stands in
-        let batches : one.batch ≡ other.batch = (are.batched.same u.0 u.0 one.batch other.batch t t u.1 u.1 one.stands stands).1 (walk_same (HasEdge are.graph) u.0 u.0 refl, walk_same (HasEdge are.graph) u.0 u.0 refl) in
+        let batches : one.batch ≡ other.batch =
+        (are.batched.same u.0 u.0 one.batch other.batch t t u.1 u.1 one.stands stands).1
+        (walk_same (HasEdge are.graph) u.0 u.0 refl, walk_same (HasEdge are.graph) u.0 u.0 refl) in
         let first : starts finals one.number + one.batch ≡ i = one.place in
         let second : starts finals other.number + other.batch ≡ j = other.place in
         let start : starts finals one.number ≡ starts finals other.number = ap (starts finals) numbers in
@@ -102,9 +111,11 @@ module _ (s : Parameters) (faulty : ℕ → Bool) (arrivals : Arrivals) (blocks 
 
     -- for any block that proposes it: what is solid there or shares the proposal with a is so where the batch comes
     -- from
-    pub solid_there : (number j : ℕ) (block : Placed) (a b : Tx) → slice_get blocks number ≡ Some block → IsKept s (fresh_lists block) b → IsSolid s (fresh_lists block) b ⊎ IsKept s (fresh_lists block) a
+    pub solid_there : (number j : ℕ) (block : Placed) (a b : Tx) → slice_get blocks number ≡ Some block → IsKept s (fresh_lists block) b
+        → IsSolid s (fresh_lists block) b ⊎ IsKept s (fresh_lists block) a
         → (from : ComesFrom finals j b) (own : Placed) → slice_get blocks from.number ≡ Some own → IsSolid s (fresh_lists own) b ⊎ IsKept s (fresh_lists own) a
     solid_there number j block a b stands kept solid from own found =
-        let numbers : number ≡ from.number = proposed_once number from.number b (record { block = block; stands = stands; kept = kept }) (proposer_of j b from) in
+        let numbers : number ≡ from.number =
+        proposed_once number from.number b (record { block = block; stands = stands; kept = kept }) (proposer_of j b from) in
         let there : slice_get blocks from.number ≡ Some block = ap (λ (k : ℕ). slice_get blocks k) (sym numbers) ∙ stands in
         subst (λ (x : Placed). IsSolid s (fresh_lists x) b ⊎ IsKept s (fresh_lists x) a) (same_block block own blocks from.number there found) solid

@@ -38,7 +38,8 @@ pub record Finishes (s : Parameters) : Type 0 where
   pub one_kept : (lists : List (List Tx)) (one other : List Tx) → AreKept s lists one → AreKept s lists other → one ≡ other
 
 -- of two graphs with the same vertices, where each pair has its first edge, both are complete or neither is
-same_complete : (s : Parameters) (blocks : List (List (List Tx))) (g h : Graph) → g.vertices ≡ h.vertices → HasFirstEdges s blocks g → HasFirstEdges s blocks h → IsComplete g → IsComplete h
+same_complete : (s : Parameters) (blocks : List (List (List Tx))) (g h : Graph) → g.vertices ≡ h.vertices → HasFirstEdges s blocks g
+    → HasFirstEdges s blocks h → IsComplete g → IsComplete h
 same_complete s blocks g h same one other complete u v from to apart missing =
     let a : Tx = get_or h.vertices u any_tx in
     let b : Tx = get_or h.vertices v any_tx in
@@ -49,7 +50,8 @@ same_complete s blocks g h same one other complete u v from to apart missing =
     one u v a b (ap (λ (vs : List Tx). slice_get vs u) same ∙ at_u) (ap (λ (vs : List Tx). slice_get vs v) same ∙ at_v) ∙ sym (other u v a b at_u at_v) in
     complete u v (subst (λ (vs : List Tx). u < length vs) back from) (subst (λ (vs : List Tx). v < length vs) back to) apart (edge ∙ missing)
 
-module _ (s : Parameters) (valid : IsValid s) (faulty : ℕ → Bool) (arrivals : Arrivals) (chain : Chain) (blocks : AreBlocks s faulty arrivals chain) (answers : Answers s) where
+module _ (s : Parameters) (valid : IsValid s) (faulty : ℕ → Bool) (arrivals : Arrivals) (chain : Chain)
+    (blocks : AreBlocks s faulty arrivals chain) (answers : Answers s) where
   pub is_chain : IsChain s faulty arrivals (placed s chain)
   is_chain = record {
     each = all_places (IsBlock s faulty arrivals) (placed s chain) (λ k block found.
@@ -69,7 +71,8 @@ module _ (s : Parameters) (valid : IsValid s) (faulty : ℕ → Bool) (arrivals 
   abbrev graph_at : ℕ → List SealedOrder → Graph
   graph_at k orders = graph_with s (lists_in orders) (drop (suc k) (map lists_in chain))
 
-  edges_at : (k : ℕ) (orders : List SealedOrder) → HasFirstEdges s (lists_of_lifetime (placed_over s (take k chain) orders) (drop (k + 1) (placed s chain))) (graph_at k orders)
+  edges_at : (k : ℕ) (orders : List SealedOrder)
+      → HasFirstEdges s (lists_of_lifetime (placed_over s (take k chain) orders) (drop (k + 1) (placed s chain))) (graph_at k orders)
   edges_at k orders =
       subst (λ (later : List (List (List Tx))). HasFirstEdges s (fresh_in orders ∷ later) (graph_at k orders)) (sym (lates_from s chain k))
       (answers.edges (kept_by s (fresh_in orders)) (fresh_in orders ∷ map late_of (drop (suc k) (map lists_in chain))))
@@ -113,9 +116,11 @@ module _ (s : Parameters) (valid : IsValid s) (faulty : ℕ → Bool) (arrivals 
           let proposal : IsCompleteProposal s (placed_over s (take many chain) at.0) (drop (many + 1) (placed s chain)) are.graph =
           subst (λ (x : Placed). IsCompleteProposal s x (drop (many + 1) (placed s chain)) are.graph) at.2 are.proposal in
           let stands : slice_get graphs many ≡ Some (graph_at many at.0) = proposal_place s chain many at.0 at.1 in
-          let same : are.graph.vertices ≡ kept_by s (fresh_in at.0) = finishes.one_kept (fresh_in at.0) are.graph.vertices (kept_by s (fresh_in at.0)) proposal.kept (kept_at many at.0 at.1) in
+          let same : are.graph.vertices ≡ kept_by s (fresh_in at.0) =
+          finishes.one_kept (fresh_in at.0) are.graph.vertices (kept_by s (fresh_in at.0)) proposal.kept (kept_at many at.0 at.1) in
           let complete : IsComplete (graph_at many at.0) =
-          same_complete s (lists_of_lifetime (placed_over s (take many chain) at.0) (drop (many + 1) (placed s chain))) are.graph (graph_at many at.0) same proposal.edges (edges_at many at.0) proposal.complete in
+          same_complete s (lists_of_lifetime (placed_over s (take many chain) at.0) (drop (many + 1) (placed s chain))) are.graph
+          (graph_at many at.0) same proposal.edges (edges_at many at.0) proposal.complete in
           subst (λ (g : Graph). IsComplete g → ⊥) (get_or_from_slice_get graphs many (graph_at many at.0) (graph_at many at.0) stands)
           (read.next (slice_get_within graphs many (graph_at many at.0) stands) (graph_at many at.0)) complete
 

@@ -42,10 +42,12 @@ module _ (s : Parameters) (valid : IsValid s) (faulty : ℕ → Bool) (arrivals 
       record {
         few = omega (arith, length-map orders (λ (sealed : SealedOrder). sealed.order.fresh), over.quorum, valid.replicas.few);
         short = All-map (λ (list : List Tx). length list ≤ 128) (λ (sealed : SealedOrder). sealed.order.fresh) orders
-            (All-weaker (λ (sealed : SealedOrder). IsShort sealed.order) (λ (sealed : SealedOrder). length sealed.order.fresh ≤ 128) (λ sealed short. short.fresh) orders over.short);
+            (All-weaker (λ (sealed : SealedOrder). IsShort sealed.order) (λ (sealed : SealedOrder). length sealed.order.fresh ≤ 128)
+            (λ sealed short. short.fresh) orders over.short);
       }
 
-  fresh_blocks : (some : Chain) → ((k : ℕ) (orders : List SealedOrder) → slice_get some k ≡ Some orders → AreFresh (fresh_in orders)) → AreFreshBlocks (map lists_in some)
+  fresh_blocks : (some : Chain) → ((k : ℕ) (orders : List SealedOrder) → slice_get some k ≡ Some orders → AreFresh (fresh_in orders))
+      → AreFreshBlocks (map lists_in some)
   fresh_blocks some each =
       all_places (λ (b : BlockLists). AreFresh b.fresh) (map lists_in some) (λ k b found.
       let at = image_place lists_in some k b found in

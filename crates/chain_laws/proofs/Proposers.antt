@@ -28,6 +28,8 @@ module _ (s : Parameters) (chain : Chain) (number : ℕ) where
   pub owed_at : (a b : Tx) (proposed : IsProposedAt s chain number b) → IsSolidAt s chain number b ⊎ IsProposedAt s chain number a
       → IsSolid s (fresh_in proposed.orders) b ⊎ IsKept s (fresh_in proposed.orders) a
   owed_at a b proposed (inl solid) =
-      inl (subst (λ (orders : List SealedOrder). IsSolid s (fresh_in orders) b) (same_orders solid.orders proposed.orders solid.stands proposed.stands) solid.solid)
+      inl (subst (λ (orders : List SealedOrder). IsSolid s (fresh_in orders) b)
+      (same_orders solid.orders proposed.orders solid.stands proposed.stands) solid.solid)
   owed_at a b proposed (inr alongside) =
-      inr (subst (λ (orders : List SealedOrder). IsKept s (fresh_in orders) a) (same_orders alongside.orders proposed.orders alongside.stands proposed.stands) alongside.kept)
+      inr (subst (λ (orders : List SealedOrder). IsKept s (fresh_in orders) a)
+      (same_orders alongside.orders proposed.orders alongside.stands proposed.stands) alongside.kept)

@@ -27,13 +27,23 @@ AreHonest chain orders = All (λ sealed. IsHonestOver five is_last arrived chain
 
 short_one : All (λ sealed. IsShort sealed.order) one
 short_one =
-    All-from_recursion (λ (sealed : SealedOrder). IsShort sealed.order) one
-    (record { fresh = (omega arith); late = (omega arith) }, (record { fresh = (omega arith); late = (omega arith) }, (record { fresh = (omega arith); late = (omega arith) }, (record { fresh = (omega arith); late = (omega arith) }, tt))))
+    All-from_recursion (λ (sealed : SealedOrder). IsShort sealed.order) one (
+      record { fresh = (omega arith); late = (omega arith) },
+      (
+        record { fresh = (omega arith); late = (omega arith) },
+        (record { fresh = (omega arith); late = (omega arith) }, (record { fresh = (omega arith); late = (omega arith) }, tt)),
+      ),
+    )
 
 short_two : All (λ sealed. IsShort sealed.order) two
 short_two =
-    All-from_recursion (λ (sealed : SealedOrder). IsShort sealed.order) two
-    (record { fresh = (omega arith); late = (omega arith) }, (record { fresh = (omega arith); late = (omega arith) }, (record { fresh = (omega arith); late = (omega arith) }, (record { fresh = (omega arith); late = (omega arith) }, tt))))
+    All-from_recursion (λ (sealed : SealedOrder). IsShort sealed.order) two (
+      record { fresh = (omega arith); late = (omega arith) },
+      (
+        record { fresh = (omega arith); late = (omega arith) },
+        (record { fresh = (omega arith); late = (omega arith) }, (record { fresh = (omega arith); late = (omega arith) }, tt)),
+      ),
+    )
 
 fit_one : IsFit [] one
 fit_one = All-from_recursion (λ (sealed : SealedOrder). fits (standing_of five []) sealed.order ≡ true) one (refl, (refl, (refl, (refl, tt))))
@@ -62,7 +72,8 @@ module _ (replicas : AreReplicas 5 (0 ∷ 1 ∷ 2 ∷ 4 ∷ [])) where
 
   pub both_are_blocks : AreBlocks five is_last arrived both
   both_are_blocks zero orders found = subst (λ (x : List SealedOrder). IsBlockOver five is_last arrived [] x) (same_Some one orders found) block_one
-  both_are_blocks (suc zero) orders found = subst (λ (x : List SealedOrder). IsBlockOver five is_last arrived (one ∷ []) x) (same_Some two orders found) block_two
+  both_are_blocks (suc zero) orders found =
+      subst (λ (x : List SealedOrder). IsBlockOver five is_last arrived (one ∷ []) x) (same_Some two orders found) block_two
   both_are_blocks (suc (suc k)) orders found = absurd (none-some orders found)
 
 -- both lead to the third, which is solid

@@ -21,17 +21,20 @@ use Rattle.chain_laws.proofs.ChainPremises.{Stands}
 abbrev pub Grows : Parameters → Type 0
 Grows s = (blocks : List BlockLists) (b : BlockLists) → IsValidChain s blocks → IsValidOver s blocks b → IsValidChain s (blocks ++ b ∷ [])
 
-module _ (s : Parameters) (valid : IsValid s) (faulty : ℕ → Bool) (arrivals : Arrivals) (chain : Chain) (blocks : AreBlocks s faulty arrivals chain) (stands : Stands s) (grows : Grows s) where
+module _ (s : Parameters) (valid : IsValid s) (faulty : ℕ → Bool) (arrivals : Arrivals) (chain : Chain)
+    (blocks : AreBlocks s faulty arrivals chain) (stands : Stands s) (grows : Grows s) where
   valid_at : (k : ℕ) (orders : List SealedOrder) → slice_get chain k ≡ Some orders → IsValidOver s (map lists_in (take k chain)) (lists_in orders)
   valid_at k orders found =
       let prefix : List BlockLists = map lists_in (take k chain) in
       let short = fresh_prefix s valid faulty arrivals chain blocks k in
       record {
         short = fresh_at s valid faulty arrivals chain blocks k orders found;
-        unused = All-weaker (λ (list : List Tx). All (λ t. is_used (standing_of s (take k chain)) t ≡ false) list) (λ (list : List Tx). All (λ t. used_in s prefix t ≡ false) list)
+        unused = All-weaker (λ (list : List Tx). All (λ t. is_used (standing_of s (take k chain)) t ≡ false) list)
+            (λ (list : List Tx). All (λ t. used_in s prefix t ≡ false) list)
             (λ list all. All-weaker (λ (t : Tx). is_used (standing_of s (take k chain)) t ≡ false) (λ (t : Tx). used_in s prefix t ≡ false)
             (λ t is. sym (stands.used prefix t short) ∙ is) list all) (fresh_in orders) (unused_at s valid faulty arrivals chain blocks k orders found);
-        waiting = All-weaker (λ (list : List Tx). All (λ t. is_waiting (standing_of s (take k chain)) t ≡ true) list) (λ (list : List Tx). All (λ t. waiting_in s prefix t ≡ true) list)
+        waiting = All-weaker (λ (list : List Tx). All (λ t. is_waiting (standing_of s (take k chain)) t ≡ true) list)
+            (λ (list : List Tx). All (λ t. waiting_in s prefix t ≡ true) list)
             (λ list all. All-weaker (λ (t : Tx). is_waiting (standing_of s (take k chain)) t ≡ true) (λ (t : Tx). waiting_in s prefix t ≡ true)
             (λ t is. sym (stands.waiting prefix t short) ∙ is) list all) (late_in orders) (waiting_at s valid faulty arrivals chain blocks k orders found);
       }

@@ -30,4 +30,5 @@ pub record IsBlockOver (s : Parameters) (faulty : ℕ → Bool) (arrivals : Arri
 
 -- The block of each number, counted from 0, is a block over those before it.
 abbrev pub AreBlocks : Parameters → (ℕ → Bool) → Arrivals → Chain → Type 0
-AreBlocks s faulty arrivals chain = (number : ℕ) (orders : List SealedOrder) → slice_get chain number ≡ Some orders → IsBlockOver s faulty arrivals (take number chain) orders
+AreBlocks s faulty arrivals chain = (number : ℕ) (orders : List SealedOrder) → slice_get chain number ≡ Some orders
+    → IsBlockOver s faulty arrivals (take number chain) orders

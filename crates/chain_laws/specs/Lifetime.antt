@@ -14,7 +14,8 @@ lists_of_lifetime first later = fresh_lists first ∷ map late_lists later
 
 -- As long as the blocks before a later block give the pair of a and b no edge, a is waiting there.
 abbrev pub WaitsWhileMissing : Parameters → Placed → List Placed → Tx → Tx → Type 0
-WaitsWhileMissing s first later a b = (k : ℕ) (block : Placed) → slice_get later k ≡ Some block → first_edge s (lists_of_lifetime first (take k later)) a b ≡ Missing → block.waiting a ≡ true
+WaitsWhileMissing s first later a b = (k : ℕ) (block : Placed) → slice_get later k ≡ Some block
+    → first_edge s (lists_of_lifetime first (take k later)) a b ≡ Missing → block.waiting a ≡ true
 
 -- All that the first block keeps, each pair with the edge of the first of the blocks that gives one, and no pair
 -- missing.

@@ -18,11 +18,13 @@ order_of r view fresh late = record { order = record { replica = r; view = view;
 
 -- One list has the first before the second. Another, of the faulty replica, has the second before the first.
 abbrev pub one : List SealedOrder
-one = order_of 0 1 (first ∷ second ∷ third ∷ []) [] ∷ order_of 1 1 (third ∷ []) [] ∷ order_of 2 1 (third ∷ []) [] ∷ order_of 4 1 (second ∷ first ∷ third ∷ []) [] ∷ []
+one = order_of 0 1 (first ∷ second ∷ third ∷ []) [] ∷ order_of 1 1 (third ∷ []) [] ∷ order_of 2 1 (third ∷ []) []
+    ∷ order_of 4 1 (second ∷ first ∷ third ∷ []) [] ∷ []
 
 -- So both are waiting. Three late lists have the first before the second.
 abbrev pub two : List SealedOrder
-two = order_of 0 2 [] (first ∷ second ∷ []) ∷ order_of 1 2 [] (first ∷ second ∷ []) ∷ order_of 2 2 [] (first ∷ second ∷ []) ∷ order_of 4 2 [] (second ∷ first ∷ []) ∷ []
+two = order_of 0 2 [] (first ∷ second ∷ []) ∷ order_of 1 2 [] (first ∷ second ∷ []) ∷ order_of 2 2 [] (first ∷ second ∷ [])
+    ∷ order_of 4 2 [] (second ∷ first ∷ []) ∷ []
 
 abbrev pub both : Chain
 both = one ∷ two ∷ []

@@ -22,7 +22,8 @@ get_after (x ∷ xs) ys (suc k) past =
 closed_here : (xs : List Standing) (i : ℕ) (d : Standing) (batches : List (List Tx)) → i < length xs → shown (get_or xs i d) ≡ Closed batches
     → closed_batches (map shown (drop i xs)) ≡ batches ++ closed_batches (map shown (drop (i + 1) xs))
 closed_here xs i d batches below is =
-    ap (λ (ys : List Standing). closed_batches (map shown ys)) (drop_more xs i d below) ∙ ap (λ (s : Stage). closed_batches (s ∷ map shown (drop (i + 1) xs))) is
+    ap (λ (ys : List Standing). closed_batches (map shown ys)) (drop_more xs i d below)
+    ∙ ap (λ (s : Stage). closed_batches (s ∷ map shown (drop (i + 1) xs))) is
 
 module _ (xs : List Standing) (i left : ℕ) (d : Standing) (batches : List (List Tx)) (below : i < length xs) (is : shown (get_or xs i d) ≡ Closed batches) where
   abbrev rest : List (List Tx)

@@ -62,7 +62,8 @@ fresh_distinct s chain known = drawn_distinct 128 (λ (t : Tx). not (used_in s c
 pub late_distinct : (s : Parameters) (chain : List BlockLists) (known : List Tx) → AreDistinct known → AreDistinct (late_drawn s chain known)
 late_distinct s chain known = drawn_distinct 256 (λ (t : Tx). waiting_in s chain t) known
 
-valid_on : (s : Parameters) (before later : List BlockLists) (b : BlockLists) → AreValidAfter s before later → IsValidOver s (before ++ later) b → AreValidAfter s before (later ++ b ∷ [])
+valid_on : (s : Parameters) (before later : List BlockLists) (b : BlockLists) → AreValidAfter s before later
+    → IsValidOver s (before ++ later) b → AreValidAfter s before (later ++ b ∷ [])
 valid_on s before [] b valid one = (subst (λ (chain : List BlockLists). IsValidOver s chain b) (append-nil before) one, tt)
 valid_on s before (first ∷ later) b valid one = (
   valid.0,

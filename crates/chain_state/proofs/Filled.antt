@@ -6,14 +6,17 @@ use Rattle.std.proofs.lemmas.List.Elements.{filter-append}
 use Rattle.seq_base.specs.declared.tx.Tx.{Tx}
 
 -- what is drawn from a prefix is all that there is room for
-pub drawn_full : (wanted : Tx → Bool) (known drawn : List Tx) (i most : ℕ) → drawn ≡ filter wanted (take i known) → length drawn ≡ most → drawn ≡ take most (filter wanted known)
+pub drawn_full : (wanted : Tx → Bool) (known drawn : List Tx) (i most : ℕ) → drawn ≡ filter wanted (take i known) → length drawn ≡ most
+    → drawn ≡ take most (filter wanted known)
 drawn_full wanted known drawn i most is long =
     let split : filter wanted known ≡ drawn ++ filter wanted (drop i known) =
-    ap (filter wanted) (sym (take-append-drop i known)) ∙ filter-append wanted (take i known) (drop i known) ∙ ap (λ (prefix : List Tx). prefix ++ filter wanted (drop i known)) (sym is) in
+    ap (filter wanted) (sym (take-append-drop i known)) ∙ filter-append wanted (take i known) (drop i known)
+    ∙ ap (λ (prefix : List Tx). prefix ++ filter wanted (drop i known)) (sym is) in
     sym (ap (take most) split ∙ take_at drawn (filter wanted (drop i known)) most long)
 
 -- what is drawn from all is all, where there is room
-pub drawn_all : (wanted : Tx → Bool) (known drawn : List Tx) (i most : ℕ) → drawn ≡ filter wanted (take i known) → length drawn ≤ most → length known ≤ i → drawn ≡ take most (filter wanted known)
+pub drawn_all : (wanted : Tx → Bool) (known drawn : List Tx) (i most : ℕ) → drawn ≡ filter wanted (take i known) → length drawn ≤ most
+    → length known ≤ i → drawn ≡ take most (filter wanted known)
 drawn_all wanted known drawn i most is few ends =
     let all : drawn ≡ filter wanted known = is ∙ ap (filter wanted) (take_all i known ends) in
     all ∙ sym (take_all most (filter wanted known) (subst (λ (xs : List Tx). length xs ≤ most) all few))

@@ -26,6 +26,7 @@ pub closed-stage : (g : Graph) → IsGraph g → IsComplete g → stage_of g ≡
 closed-stage g graph complete = stage-closed g ((complete_decides g graph).1 complete)
 
 -- a pending one is unchanged where none of its waiting transactions is listed late
-pub untouched-stage : (s : Parameters) (late : List (List Tx)) (g : Graph) → IsGraph g → is_complete g ≡ false → list_any (λ t. list_any (holds t) late) (waiting_of g) ≡ false
+pub untouched-stage : (s : Parameters) (late : List (List Tx)) (g : Graph) → IsGraph g → is_complete g ≡ false
+    → list_any (λ t. list_any (holds t) late) (waiting_of g) ≡ false
     → next_stage s late (Pending g) ≡ Pending g
 untouched-stage s late g graph incomplete untouched = ap stage_of (untouched-updated s late g graph untouched) ∙ stage-pending g incomplete

@@ -21,7 +21,8 @@ use Rattle.chain_state.specs.Proposals.{graph_over, proposals, used_in, waiting_
 use Rattle.chain_state.proofs.Tables.{late_of, IsGraph-graph_over}
 
 -- what the fresh lists keep, with the edges of a chain, is a graph
-pub proposal_is_graph : (s : Parameters) (b : BlockLists) (later : List BlockLists) → AreFresh b.fresh → IsGraph (graph_over s (kept_by s b.fresh) (b.fresh ∷ map late_of later))
+pub proposal_is_graph : (s : Parameters) (b : BlockLists) (later : List BlockLists) → AreFresh b.fresh
+    → IsGraph (graph_over s (kept_by s b.fresh) (b.fresh ∷ map late_of later))
 proposal_is_graph s b later fresh =
     IsGraph-graph_over s (kept_by s b.fresh) (b.fresh ∷ map late_of later) (are_kept_of s b.fresh fresh).ascending (few_kept s b.fresh fresh)
 
@@ -35,7 +36,8 @@ proposals_are_graphs s chain short =
     All-from_recursion IsGraph (proposals s chain) (graphs_of s chain (recursion_from_All (λ (b : BlockLists). AreFresh b.fresh) chain short))
 
 -- a test of elements that decides a property of some of them, over lists of these
-any_decides : {X : Type 0} (Q : X → Type 0) (p : X → Bool) (P : X → Type 0) (xs : List X) → ((x : X) → Q x → Decides (p x) (P x)) → All Q xs → Decides (list_any p xs) (Any P xs)
+any_decides : {X : Type 0} (Q : X → Type 0) (p : X → Bool) (P : X → Type 0) (xs : List X) → ((x : X) → Q x → Decides (p x) (P x)) → All Q xs
+    → Decides (list_any p xs) (Any P xs)
 any_decides Q p P xs each all = (
   (λ passes.
       let found : Any (λ x. p x ≡ true) xs = Any-from_list_any p xs passes in
@@ -55,11 +57,14 @@ holds_decides t xs = (
 
 pub used_decides : (s : Parameters) (chain : List BlockLists) (t : Tx) → Decides (used_in s chain t) (IsUsed s chain t)
 used_decides s chain t =
-    any_decides (λ (g : Graph). Unit {0}) (λ (g : Graph). holds t g.vertices) (λ (g : Graph). Contains g.vertices t) (proposals s chain) (λ g any. holds_decides t g.vertices) (λ k d inside. tt)
+    any_decides (λ (g : Graph). Unit {0}) (λ (g : Graph). holds t g.vertices) (λ (g : Graph). Contains g.vertices t) (proposals s chain)
+    (λ g any. holds_decides t g.vertices) (λ k d inside. tt)
 
-pub waiting_decides : (s : Parameters) (chain : List BlockLists) (t : Tx) → All (λ b. AreFresh b.fresh) chain → Decides (waiting_in s chain t) (IsWaiting s chain t)
+pub waiting_decides : (s : Parameters) (chain : List BlockLists) (t : Tx) → All (λ b. AreFresh b.fresh) chain
+    → Decides (waiting_in s chain t) (IsWaiting s chain t)
 waiting_decides s chain t short =
-    any_decides IsGraph (λ (g : Graph). waits g t) (λ (g : Graph). Waits g t) (proposals s chain) (λ g graph. waits_decides g graph t) (proposals_are_graphs s chain short)
+    any_decides IsGraph (λ (g : Graph). waits g t) (λ (g : Graph). Waits g t) (proposals s chain) (λ g graph. waits_decides g graph t)
+    (proposals_are_graphs s chain short)
 
 abbrev Final : List Graph → Type 0
 Final graphs = (many : ℕ) × AreFinalBatches graphs (final_batches graphs) many
@@ -90,5 +95,6 @@ finals_are (g ∷ graphs) all =
       )
     ]
 
-pub final_of-is : (s : Parameters) (chain : List BlockLists) → All (λ b. AreFresh b.fresh) chain → (many : ℕ) × AreFinalBatches (proposals s chain) (final_of s chain) many
+pub final_of-is : (s : Parameters) (chain : List BlockLists) → All (λ b. AreFresh b.fresh) chain
+    → (many : ℕ) × AreFinalBatches (proposals s chain) (final_of s chain) many
 final_of-is s chain short = finals_are (proposals s chain) (recursion_from_All IsGraph (proposals s chain) (proposals_are_graphs s chain short))

@@ -33,15 +33,18 @@ sound-next : (s : Parameters) (late : List (List Tx)) (stage : Stage) → IsSoun
 sound-next s late (Closed batches) sound = tt
 sound-next s late (Pending g) graph = sound-of (updated s late g) (IsGraph-updated s late g graph)
 
-holds-next : (s : Parameters) (late : List (List Tx)) (t : Tx) (stage : Stage) → IsSoundStage stage → stage_holds t (next_stage s late stage) ≡ stage_holds t stage
+holds-next : (s : Parameters) (late : List (List Tx)) (t : Tx) (stage : Stage) → IsSoundStage stage
+    → stage_holds t (next_stage s late stage) ≡ stage_holds t stage
 holds-next s late t (Closed batches) sound = refl
 holds-next s late t (Pending g) graph = stage_holds-of (updated s late g) t (IsGraph-updated s late g graph)
 
-all_sound : (s : Parameters) (late : List (List Tx)) (own : Stage) (stages : List Stage) → IsSoundStage own → AllByRecursion IsSoundStage stages → AllByRecursion IsSoundStage (map (next_stage s late) stages ++ own ∷ [])
+all_sound : (s : Parameters) (late : List (List Tx)) (own : Stage) (stages : List Stage) → IsSoundStage own
+    → AllByRecursion IsSoundStage stages → AllByRecursion IsSoundStage (map (next_stage s late) stages ++ own ∷ [])
 all_sound s late own [] of_own sound = (of_own, tt)
 all_sound s late own (stage ∷ stages) of_own sound = (sound-next s late stage sound.0, all_sound s late own stages of_own sound.1)
 
-all_hold : (s : Parameters) (late : List (List Tx)) (t : Tx) (stages : List Stage) → AllByRecursion IsSoundStage stages → list_any (stage_holds t) (map (next_stage s late) stages) ≡ list_any (stage_holds t) stages
+all_hold : (s : Parameters) (late : List (List Tx)) (t : Tx) (stages : List Stage) → AllByRecursion IsSoundStage stages
+    → list_any (stage_holds t) (map (next_stage s late) stages) ≡ list_any (stage_holds t) stages
 all_hold s late t [] sound = refl
 all_hold s late t (stage ∷ stages) sound =
     ap (λ (b : Bool). b || list_any (stage_holds t) (map (next_stage s late) stages)) (holds-next s late t stage sound.0)
@@ -64,11 +67,13 @@ are_made c b g own vertices steps pending waiting g_is graph own_is vertices_are
       waiting_are = λ t.
           waiting_are t
           ∙ ap₂ (λ (ss : List (ℕ × Stage)) (stage : Stage). list_any (λ (step : ℕ × Stage). stage_waits t step.1) ss || stage_waits t stage) steps_are own_as
-          ∙ ap (λ (x : Bool). list_any (λ (step : ℕ × Stage). stage_waits t step.1) (steps_of c b) || x) (sym (or_false (stage_waits t (stage_of (own_graph c b)))))
+          ∙ ap (λ (x : Bool). list_any (λ (step : ℕ × Stage). stage_waits t step.1) (steps_of c b) || x)
+          (sym (or_false (stage_waits t (stage_of (own_graph c b)))))
           ∙ sym (list_any-append (λ (step : ℕ × Stage). stage_waits t step.1) (steps_of c b) ((length c.stages, stage_of (own_graph c b)) ∷ []));
     }
 
-module _ (c : Standings) (b : BlockLists) (own : Stage) (vertices : List Tx) (steps : List (ℕ × Stage)) (pending : List ℕ) (used waiting : List Tx) (made : AreMade c b own vertices steps pending waiting) where
+module _ (c : Standings) (b : BlockLists) (own : Stage) (vertices : List Tx) (steps : List (ℕ × Stage)) (pending : List ℕ)
+    (used waiting : List Tx) (made : AreMade c b own vertices steps pending waiting) where
   -- the steps stored at their indices, with the block's own at the end
   pub stages_go_on : put_all steps (c.stages ++ own ∷ []) ≡ (applied c b).stages
   stages_go_on =
@@ -102,7 +107,8 @@ module _ (c : Standings) (b : BlockLists) (own : Stage) (vertices : List Tx) (st
   }
 
 -- the same keys in another order
-pub kept_reordered : (stages : List Stage) (pending : List ℕ) (used now waiting : List Tx) → KeepsStandings stages pending used waiting → ((t : Tx) → is_among now t ≡ is_among used t) → KeepsStandings stages pending now waiting
+pub kept_reordered : (stages : List Stage) (pending : List ℕ) (used now waiting : List Tx) → KeepsStandings stages pending used waiting
+    → ((t : Tx) → is_among now t ≡ is_among used t) → KeepsStandings stages pending now waiting
 kept_reordered stages pending used now waiting kept same = record {
   sound = kept.sound;
   pending_are = kept.pending_are;

@@ -45,7 +45,8 @@ none_listed P t (xs ∷ lists) lacking all =
     omega (arith, rest, here, sum)
 
 -- a valid block proposes nothing that is used
-pub new_is_unused : (s : Parameters) (chain : List BlockLists) (b : BlockLists) (t : Tx) → IsValidOver s chain b → used_in s chain t ≡ true → holds t (kept_by s b.fresh) ≡ false
+pub new_is_unused : (s : Parameters) (chain : List BlockLists) (b : BlockLists) (t : Tx) → IsValidOver s chain b → used_in s chain t ≡ true
+    → holds t (kept_by s b.fresh) ≡ false
 new_is_unused s chain b t valid used =
     false_from_ne_true (holds t (kept_by s b.fresh)) (λ kept.
     let some : 1 ≤ listed b.fresh t = kept_are_listed s b.fresh valid.short t kept in
@@ -74,11 +75,13 @@ final_once s before (b ∷ later) valid =
       | inl complete ↦
           let graph : IsGraph g = proposal_is_graph s b later valid.0.short in
           let whole : IsComplete g = (complete_decides g graph).0 complete in
-          let hold : (t : Tx) → holds t (joined (batches_of g)) ≡ holds t (kept_by s b.fresh) = λ t. holds-joined (batches_of g) t ∙ batches_hold g graph whole t in
+          let hold : (t : Tx) → holds t (joined (batches_of g)) ≡ holds t (kept_by s b.fresh) =
+          λ t. holds-joined (batches_of g) t ∙ batches_hold g graph whole t in
           let split : joined (final_of s (b ∷ later)) ≡ joined (batches_of g) ++ joined (final_of s later) =
           rw complete (flat_map-append batch_of (batches_of g) (final_of s later)) in
           record {
-            distinct = subst AreDistinct (sym split) (distinct-append (joined (batches_of g)) (joined (final_of s later)) (batches_distinct g graph whole) rest.distinct
+            distinct = subst AreDistinct (sym split)
+                (distinct-append (joined (batches_of g)) (joined (final_of s later)) (batches_distinct g graph whole) rest.distinct
                 (λ t member. rest.new t (used_now s before b t (sym (hold t) ∙ member))));
             new = λ t used.
                 ap (holds t) split ∙ list_any-append (λ (x : Tx). tx_eq x t) (joined (batches_of g)) (joined (final_of s later))

@@ -33,11 +33,13 @@ drawn_in_order (suc most) wanted (suc m) (x ∷ xs) a b is before =
       ]
     ]
 
-pub fresh_in_order : (s : Parameters) (chain : List BlockLists) (m : ℕ) (arrivals : List Tx) (a b : Tx) → used_in s chain a ≡ false → ranks_above a b arrivals ≡ true
+pub fresh_in_order : (s : Parameters) (chain : List BlockLists) (m : ℕ) (arrivals : List Tx) (a b : Tx) → used_in s chain a ≡ false
+    → ranks_above a b arrivals ≡ true
     → ranks_above b a (fresh_drawn s chain (take m arrivals)) ≡ false
 fresh_in_order s chain m arrivals a b unused before =
     drawn_in_order 128 (λ (t : Tx). not (used_in s chain t)) m arrivals a b (not_from_false (used_in s chain a) unused) before
 
-pub late_in_order : (s : Parameters) (chain : List BlockLists) (m : ℕ) (arrivals : List Tx) (a b : Tx) → waiting_in s chain a ≡ true → ranks_above a b arrivals ≡ true
+pub late_in_order : (s : Parameters) (chain : List BlockLists) (m : ℕ) (arrivals : List Tx) (a b : Tx) → waiting_in s chain a ≡ true
+    → ranks_above a b arrivals ≡ true
     → ranks_above b a (late_drawn s chain (take m arrivals)) ≡ false
 late_in_order s chain m arrivals a b waiting before = drawn_in_order 256 (λ (t : Tx). waiting_in s chain t) m arrivals a b waiting before

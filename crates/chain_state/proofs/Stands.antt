@@ -39,7 +39,8 @@ one_on s late g graph =
       | inr missing ↦ sym (ap (next_stage s late) (stage-pending g missing))
     ]
 
-all_on : (s : Parameters) (late : List (List Tx)) (gs : List Graph) → AllByRecursion IsGraph gs → map stage_of (map (updated s late) gs) ≡ map (next_stage s late) (map stage_of gs)
+all_on : (s : Parameters) (late : List (List Tx)) (gs : List Graph) → AllByRecursion IsGraph gs
+    → map stage_of (map (updated s late) gs) ≡ map (next_stage s late) (map stage_of gs)
 all_on s late [] all = refl
 all_on s late (g ∷ gs) all =
     ap (λ (x : Stage). x ∷ map stage_of (map (updated s late) gs)) (one_on s late g all.0)
@@ -49,7 +50,8 @@ abbrev pub with_stages : Parameters → List Stage → Standings
 with_stages s stages = record { setting = s; stages = stages }
 
 -- one more block
-pub standing-more : (s : Parameters) (chain : List BlockLists) (b : BlockLists) → All (λ c. AreFresh c.fresh) chain → standing_for s (chain ++ b ∷ []) ≡ applied (standing_for s chain) b
+pub standing-more : (s : Parameters) (chain : List BlockLists) (b : BlockLists) → All (λ c. AreFresh c.fresh) chain
+    → standing_for s (chain ++ b ∷ []) ≡ applied (standing_for s chain) b
 standing-more s chain b short =
     ap (with_stages s) (ap (map stage_of) (proposals-more s chain b)
     ∙ map-append stage_of (map (updated s b.late) (proposals s chain)) (proposal_of s b.fresh ∷ [])
@@ -59,11 +61,13 @@ standing-more s chain b short =
 abbrev IsFreshBlock : BlockLists → Type 0
 IsFreshBlock b = AreFresh b.fresh
 
-all_stand_from : (s : Parameters) (before later : List BlockLists) → All IsFreshBlock before → AllByRecursion IsFreshBlock later → all_applied (standing_for s before) later ≡ standing_for s (before ++ later)
+all_stand_from : (s : Parameters) (before later : List BlockLists) → All IsFreshBlock before → AllByRecursion IsFreshBlock later
+    → all_applied (standing_for s before) later ≡ standing_for s (before ++ later)
 all_stand_from s before [] short rest = ap (standing_for s) (sym (append-nil before))
 all_stand_from s before (b ∷ later) short rest =
     ap (λ (c : Standings). all_applied c later) (sym (standing-more s before b short))
-    ∙ all_stand_from s (before ++ b ∷ []) later (All-append IsFreshBlock before (b ∷ []) short (All-cons IsFreshBlock b [] rest.0 (All-nil IsFreshBlock))) rest.1
+    ∙ all_stand_from s (before ++ b ∷ []) later
+    (All-append IsFreshBlock before (b ∷ []) short (All-cons IsFreshBlock b [] rest.0 (All-nil IsFreshBlock))) rest.1
     ∙ ap (standing_for s) (append_assoc before (b ∷ []) later)
 
 -- a whole chain, block by block
@@ -91,7 +95,8 @@ stage_waits-of g t graph =
     ]
 
 -- a test of stages, and of their graphs
-any_stage : (p : Stage → Bool) (q : Graph → Bool) → ((g : Graph) → IsGraph g → p (stage_of g) ≡ q g) → (gs : List Graph) → AllByRecursion IsGraph gs → list_any p (map stage_of gs) ≡ list_any q gs
+any_stage : (p : Stage → Bool) (q : Graph → Bool) → ((g : Graph) → IsGraph g → p (stage_of g) ≡ q g) → (gs : List Graph)
+    → AllByRecursion IsGraph gs → list_any p (map stage_of gs) ≡ list_any q gs
 any_stage p q same [] all = refl
 any_stage p q same (g ∷ gs) all =
     ap (λ (b : Bool). b || list_any p (map stage_of gs)) (same g all.0) ∙ ap (λ (b : Bool). q g || b) (any_stage p q same gs all.1)
@@ -111,7 +116,8 @@ used_stands s chain t short =
     any_stage (stage_holds t) (λ (g : Graph). holds t g.vertices) (λ g graph. stage_holds-of g t graph) (proposals s chain)
     (recursion_from_All IsGraph (proposals s chain) (proposals_are_graphs s chain short))
 
-pub waiting_stands : (s : Parameters) (chain : List BlockLists) (t : Tx) → All (λ c. AreFresh c.fresh) chain → is_waiting (standing_for s chain) t ≡ waiting_in s chain t
+pub waiting_stands : (s : Parameters) (chain : List BlockLists) (t : Tx) → All (λ c. AreFresh c.fresh) chain
+    → is_waiting (standing_for s chain) t ≡ waiting_in s chain t
 waiting_stands s chain t short =
     any_stage (stage_waits t) (λ (g : Graph). waits g t) (λ g graph. stage_waits-of g t graph) (proposals s chain)
     (recursion_from_All IsGraph (proposals s chain) (proposals_are_graphs s chain short))

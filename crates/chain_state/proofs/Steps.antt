@@ -23,13 +23,15 @@ pub proposals-more : (s : Parameters) (chain : List BlockLists) (b : BlockLists)
     → proposals s (chain ++ b ∷ []) ≡ map (updated s b.late) (proposals s chain) ++ proposal_of s b.fresh ∷ []
 proposals-more s [] b = ap (λ (g : Graph). g ∷ []) (graph_over-one s (kept_by s b.fresh) b.fresh)
 proposals-more s (first ∷ chain) b =
-    let head : graph_over s (kept_by s first.fresh) (first.fresh ∷ map late_of (chain ++ b ∷ [])) ≡ updated s b.late (graph_over s (kept_by s first.fresh) (first.fresh ∷ map late_of chain)) =
+    let head : graph_over s (kept_by s first.fresh) (first.fresh ∷ map late_of (chain ++ b ∷ []))
+    ≡ updated s b.late (graph_over s (kept_by s first.fresh) (first.fresh ∷ map late_of chain)) =
     ap (λ (later : List (List (List Tx))). graph_over s (kept_by s first.fresh) (first.fresh ∷ later)) (map-append late_of chain (b ∷ []))
     ∙ sym (updated_is s (kept_by s first.fresh) (first.fresh ∷ map late_of chain) b.late) in
     rw (head, proposals-more s chain b) refl
 
 -- only a block's own lists determine which transactions it proposes
-pub proposals-vertices : (s : Parameters) (chain : List BlockLists) → map (λ (g : Graph). g.vertices) (proposals s chain) ≡ map (λ (b : BlockLists). kept_by s b.fresh) chain
+pub proposals-vertices : (s : Parameters) (chain : List BlockLists)
+    → map (λ (g : Graph). g.vertices) (proposals s chain) ≡ map (λ (b : BlockLists). kept_by s b.fresh) chain
 proposals-vertices s [] = refl
 proposals-vertices s (b ∷ chain) = ap (λ (rest : List (List Tx)). kept_by s b.fresh ∷ rest) (proposals-vertices s chain)
 
@@ -37,7 +39,8 @@ pub used_in-is : (s : Parameters) (chain : List BlockLists) (t : Tx) → used_in
 used_in-is s [] t = refl
 used_in-is s (b ∷ chain) t = ap (λ (rest : Bool). holds t (kept_by s b.fresh) || rest) (used_in-is s chain t)
 
-pub used_in-more : (s : Parameters) (chain : List BlockLists) (b : BlockLists) (t : Tx) → used_in s (chain ++ b ∷ []) t ≡ (used_in s chain t || holds t (kept_by s b.fresh))
+pub used_in-more : (s : Parameters) (chain : List BlockLists) (b : BlockLists) (t : Tx)
+    → used_in s (chain ++ b ∷ []) t ≡ (used_in s chain t || holds t (kept_by s b.fresh))
 used_in-more s chain b t =
     used_in-is s (chain ++ b ∷ []) t
     ∙ list_any-append (λ (c : BlockLists). holds t (kept_by s c.fresh)) chain (b ∷ [])

@@ -45,7 +45,8 @@ updated_is s vertices blocks late =
     (λ v. sym (first_edge-more s blocks late u v)) vertices in
     ap (with_rows vertices) (
     map_zip (λ (entry : Tx × List Edge). updated_row s late vertices entry.0 entry.1) (λ (u : Tx). map (first_edge s blocks u) vertices) vertices
-    ∙ map_agree (λ (u : Tx). updated_row s late vertices u (map (first_edge s blocks u) vertices)) (λ (u : Tx). map (first_edge s (blocks ++ late ∷ []) u) vertices) row vertices
+    ∙ map_agree (λ (u : Tx). updated_row s late vertices u (map (first_edge s blocks u) vertices))
+    (λ (u : Tx). map (first_edge s (blocks ++ late ∷ []) u) vertices) row vertices
     )
 
 -- what waits, by the edges of transactions
@@ -59,7 +60,8 @@ waits_is : (s : Parameters) (vertices : List Tx) (blocks : List (List (List Tx))
     → waits (graph_over s vertices blocks) t ≡ list_any (λ u. tx_eq u t && lacks_over (first_edge s blocks) vertices u) vertices
 waits_is s vertices blocks t =
     any_zip (λ (entry : Tx × List Edge). tx_eq entry.0 t && lacks vertices entry.0 entry.1) (λ (u : Tx). map (first_edge s blocks u) vertices) vertices
-    ∙ any_agree (λ (u : Tx). tx_eq u t && lacks vertices u (map (first_edge s blocks u) vertices)) (λ (u : Tx). tx_eq u t && lacks_over (first_edge s blocks) vertices u)
+    ∙ any_agree (λ (u : Tx). tx_eq u t && lacks vertices u (map (first_edge s blocks u) vertices))
+    (λ (u : Tx). tx_eq u t && lacks_over (first_edge s blocks) vertices u)
     (λ u. ap (λ (b : Bool). tx_eq u t && b) (lacks_is (first_edge s blocks) vertices u)) vertices
 
 left_true : (a b : Bool) → a ≡ true → (a && b) ≡ false → b ≡ false

@@ -44,26 +44,34 @@ weight_none (list ∷ lists) u v none =
 no_weight : (t backward : ℕ) (rises : Bool) → outweighs (t + 1) 0 backward rises ≡ false
 no_weight t backward rises = grind (arith, nat_tests)
 
-pub edge_between-none : (s : Parameters) (lists : List (List Tx)) (u v : Tx) → list_any (holds u) lists ≡ false → list_any (holds v) lists ≡ false → edge_between s lists u v ≡ Missing
+pub edge_between-none : (s : Parameters) (lists : List (List Tx)) (u v : Tx) → list_any (holds u) lists ≡ false
+    → list_any (holds v) lists ≡ false → edge_between s lists u v ≡ Missing
 edge_between-none s lists u v one other =
     let forward : gives_edge s lists u v ≡ false = rw (weight_none lists u v one) (no_weight _ (weight lists v u) _) in
     let backward : gives_edge s lists v u ≡ false = rw (weight_none lists v u other) (no_weight _ (weight lists u v) _) in
     rw (forward, backward) refl
 
-module _ (s : Parameters) (late : List (List Tx)) (g : Graph) (graph : IsGraph g) (untouched : list_any (λ t. list_any (holds t) late) (waiting_of g) ≡ false) where
+module _ (s : Parameters) (late : List (List Tx)) (g : Graph) (graph : IsGraph g)
+    (untouched : list_any (λ t. list_any (holds t) late) (waiting_of g) ≡ false) where
   -- a vertex of a missing pair is not listed
-  not_listed : (u v : ℕ) → u < length g.vertices → v < length g.vertices → (u ≡ v → ⊥) → edge_at g u v ≡ Missing → list_any (holds (get_or g.vertices u any_tx)) late ≡ false
+  not_listed : (u v : ℕ) → u < length g.vertices → v < length g.vertices → (u ≡ v → ⊥) → edge_at g u v ≡ Missing
+      → list_any (holds (get_or g.vertices u any_tx)) late ≡ false
   not_listed u v from to apart missing =
       let t : Tx = get_or g.vertices u any_tx in
-      let waiting : waits g t ≡ true = (waits_decides g graph t).1 (u, v, record { from = slice_get-get_or g.vertices u any_tx from; to = to; apart = apart; missing = missing }) in
-      let member : holds t (waiting_of g) ≡ true = holds-filter (waits g) t g.vertices (place_holds g.vertices u t (slice_get-get_or g.vertices u any_tx from)) waiting in
+      let waiting : waits g t ≡ true =
+      (waits_decides g graph t).1
+      (u, v, record { from = slice_get-get_or g.vertices u any_tx from; to = to; apart = apart; missing = missing }) in
+      let member : holds t (waiting_of g) ≡ true =
+      holds-filter (waits g) t g.vertices (place_holds g.vertices u t (slice_get-get_or g.vertices u any_tx from)) waiting in
       none_at (λ (x : Tx). list_any (holds x) late) t (waiting_of g) member untouched
 
-  between : (u v : ℕ) → u < length g.vertices → v < length g.vertices → edge_at g u v ≡ Missing → edge_between s late (get_or g.vertices u any_tx) (get_or g.vertices v any_tx) ≡ Missing
+  between : (u v : ℕ) → u < length g.vertices → v < length g.vertices → edge_at g u v ≡ Missing
+      → edge_between s late (get_or g.vertices u any_tx) (get_or g.vertices v any_tx) ≡ Missing
   between u v from to missing =
       elim (cases_eq u v) [
         | inl one ↦
-            subst (λ (w : ℕ). edge_between s late (get_or g.vertices u any_tx) (get_or g.vertices w any_tx) ≡ Missing) one (edge_between-self s late (get_or g.vertices u any_tx))
+            subst (λ (w : ℕ). edge_between s late (get_or g.vertices u any_tx) (get_or g.vertices w any_tx) ≡ Missing) one
+            (edge_between-self s late (get_or g.vertices u any_tx))
         | inr apart ↦
             edge_between-none s late (get_or g.vertices u any_tx) (get_or g.vertices v any_tx) (not_listed u v from to apart missing)
             (not_listed v u to from (λ same. apart (sym same)) (graph.one_way v u to from ∙ ap opposite_of missing))
@@ -74,6 +82,7 @@ module _ (s : Parameters) (late : List (List Tx)) (g : Graph) (graph : IsGraph g
       same_graph (updated s late g) g (IsGraph-updated s late g graph) graph refl (λ u v from to.
       edge_at-updated s late g graph u v any_tx from to ∙ elim (missing_or_given (edge_at g u v)) [
         | inl missing ↦
-            ap (λ (e : Edge). or_edge e (edge_between s late (get_or g.vertices u any_tx) (get_or g.vertices v any_tx))) missing ∙ between u v from to missing ∙ sym missing
+            ap (λ (e : Edge). or_edge e (edge_between s late (get_or g.vertices u any_tx) (get_or g.vertices v any_tx))) missing
+            ∙ between u v from to missing ∙ sym missing
         | inr given ↦ given_is_left (edge_at g u v) (edge_between s late (get_or g.vertices u any_tx) (get_or g.vertices v any_tx)) given
       ])

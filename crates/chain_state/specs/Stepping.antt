@@ -27,7 +27,8 @@ abbrev pub with_own : Standings → BlockLists → List (ℕ × Stage)
 with_own c b = steps_of c b ++ (length c.stages, stage_of (own_graph c b)) ∷ []
 
 -- all that a state needs to apply a block
-pub record AreMade (c : Standings) (b : BlockLists) (own : Stage) (vertices : List Tx) (steps : List (ℕ × Stage)) (pending : List ℕ) (waiting : List Tx) : Type 0 where
+pub record AreMade (c : Standings) (b : BlockLists) (own : Stage) (vertices : List Tx) (steps : List (ℕ × Stage)) (pending : List ℕ)
+    (waiting : List Tx) : Type 0 where
   pub graph : IsGraph (own_graph c b)
   pub own_is : own ≡ stage_of (own_graph c b)
   pub vertices_are : vertices ≡ (own_graph c b).vertices

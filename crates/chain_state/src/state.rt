@@ -217,7 +217,8 @@ impl ChainState {
     /// All changes that a block makes to the state.
     fn made(&self, block: &Block) -> Result<Made, NoMemory>
         requires { IsWithin block.now }
-        ensures { IfOk result (λ made. AreMade self.now (lists_of block.now) (shown made.own) made.vertices.items (map placed made.stepped.items) made.pending.items made.waiting.keys) }
+        ensures { IfOk result (λ made. AreMade self.now (lists_of block.now) (shown made.own) made.vertices.items
+            (map placed made.stepped.items) made.pending.items made.waiting.keys) }
     {
         let graph = self.proposed(block)?;
         let vertices = Vec::from_slice(self.alloc, graph.as_slice())?;

@@ -46,7 +46,8 @@ pub(crate) fn waiting_set(
     stepped: &[Stepped],
     own: &Standing,
 ) -> Result<HashSet<Tx>, NoMemory>
-    ensures { IfOk result (λ set. (t : Tx) → is_among set.keys t ≡ (list_any (λ step. stage_waits t step.1) (map placed stepped.now) || stage_waits t (shown own.now))) }
+    ensures { IfOk result
+        (λ set. (t : Tx) → is_among set.keys t ≡ (list_any (λ step. stage_waits t step.1) (map placed stepped.now) || stage_waits t (shown own.now))) }
 {
     let mut waiting = HashSet::new(alloc);
     for step in stepped {

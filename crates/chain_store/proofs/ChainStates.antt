@@ -18,14 +18,16 @@ use Rattle.chain_state.specs.Standings.{Standings, applied, standing_for}
 use Rattle.chain_store.specs.Chains.{Stored, Kept, IsOf, AreOf, LeadBack, block_on, chain_state_of}
 
 -- a stored block: the first one, or one that is found
-stored_cases : (store : List Block) (d : Digest) (P : Type 0) → is_stored store d ≡ true → (d ≡ first_digest → P) → ((x : Block) → block_at store d ≡ Some x → P) → P
+stored_cases : (store : List Block) (d : Digest) (P : Type 0) → is_stored store d ≡ true → (d ≡ first_digest → P)
+    → ((x : Block) → block_at store d ≡ Some x → P) → P
 stored_cases store d P stored first found = elim (or_cases (digest_eq d first_digest) (is_some (block_at store d)) stored) [
   | inl is ↦ first ((digest_eq_decides d first_digest).0 is)
   | inr is ↦ let x = there (block_at store d) is in found x.0 x.1
 ]
 
 -- one more block, which is not the first one, after its parent
-module _ (store : List Block) (b : Block) (led : LeadBack store) (other : digest_eq (block_digest b) first_digest ≡ false) (parent : is_stored store b.cert.block ≡ true) where
+module _ (store : List Block) (b : Block) (led : LeadBack store) (other : digest_eq (block_digest b) first_digest ≡ false)
+    (parent : is_stored store b.cert.block ≡ true) where
   abbrev more : List Block
   more = store ++ b ∷ []
 
@@ -33,11 +35,13 @@ module _ (store : List Block) (b : Block) (led : LeadBack store) (other : digest
   found_stays d x found = find-append (has_digest d) store (b ∷ []) ∙ ap (λ (o : Option Block). option_or o (block_at (b ∷ []) d)) found
 
   elsewhere : (d : Digest) → digest_eq d (block_digest b) ≡ false → block_at more d ≡ block_at store d
-  elsewhere d not = find-append (has_digest d) store (b ∷ []) ∙ ap (λ (t : Bool). option_or (block_at store d) (cond t (Some b) None)) not ∙ or_none (block_at store d)
+  elsewhere d not = find-append (has_digest d) store (b ∷ []) ∙ ap (λ (t : Bool). option_or (block_at store d) (cond t (Some b) None)) not
+      ∙ or_none (block_at store d)
 
   not_first : digest_eq first_digest (block_digest b) ≡ false
   not_first = false_from_ne_true (digest_eq first_digest (block_digest b)) (λ same.
-      both_ways (digest_eq (block_digest b) first_digest) other ((digest_eq_decides (block_digest b) first_digest).1 (sym ((digest_eq_decides first_digest (block_digest b)).0 same))))
+      both_ways (digest_eq (block_digest b) first_digest) other
+      ((digest_eq_decides (block_digest b) first_digest).1 (sym ((digest_eq_decides first_digest (block_digest b)).0 same))))
 
   -- what is stored does not change
   same_at : (d : Digest) → is_stored store d ≡ true → block_at more d ≡ block_at store d
@@ -70,7 +74,8 @@ module _ (store : List Block) (b : Block) (led : LeadBack store) (other : digest
   after_same (suc steps) d stored = rw (same_at d stored) (by (block_at store d) refl (λ p before. after_same steps p before))
     where
       by : (o : Option Block) → block_at store d ≡ o → ((p : Digest) → is_stored store p ≡ true → following steps more p ≡ following steps store p)
-          → option_map_or (λ p. following steps more p ++ d ∷ []) (option_map (λ x. x.cert.block) o) [] ≡ option_map_or (λ p. following steps store p ++ d ∷ []) (option_map (λ x. x.cert.block) o) []
+          → option_map_or (λ p. following steps more p ++ d ∷ []) (option_map (λ x. x.cert.block) o) []
+          ≡ option_map_or (λ p. following steps store p ++ d ∷ []) (option_map (λ x. x.cert.block) o) []
       by None found same = refl
       by (Some x) found same = ap (λ (ds : List Digest). ds ++ d ∷ []) (same x.cert.block (led.parents d x found))
 
@@ -79,11 +84,13 @@ module _ (store : List Block) (b : Block) (led : LeadBack store) (other : digest
   enough j d within = by (block_at more d) refl
     where
       by : (o : Option Block) → block_at more d ≡ o
-          → option_map_or (λ p. following j more p ++ d ∷ []) (option_map (λ x. x.cert.block) o) [] ≡ option_map_or (λ p. following (length store) more p ++ d ∷ []) (option_map (λ x. x.cert.block) o) []
+          → option_map_or (λ p. following j more p ++ d ∷ []) (option_map (λ x. x.cert.block) o) []
+          ≡ option_map_or (λ p. following (length store) more p ++ d ∷ []) (option_map (λ x. x.cert.block) o) []
       by None found = refl
       by (Some x) found =
           let before = parent_before d x found in
-          ap (λ (ds : List Digest). ds ++ d ∷ []) (after_same j x.cert.block before ∙ led.ends j x.cert.block within ∙ sym (after_same (length store) x.cert.block before))
+          ap (λ (ds : List Digest). ds ++ d ∷ [])
+          (after_same j x.cert.block before ∙ led.ends j x.cert.block within ∙ sym (after_same (length store) x.cert.block before))
 
   one_more : length more ≡ suc (length store)
   one_more = length-append store (b ∷ []) ∙ add-one (length store)
@@ -103,7 +110,8 @@ module _ (store : List Block) (b : Block) (led : LeadBack store) (other : digest
   chain_same : (d : Digest) → is_stored store d ≡ true → chain_of more d ≡ chain_of store d
   chain_same d stored = ap (λ (k : ℕ). following k more d) one_more ∙ after_same (suc (length store)) d stored ∙ led.ends (suc (length store)) d (omega arith)
 
-  fold_same : (steps : ℕ) (c : Standings) (d : Digest) → is_stored store d ≡ true → fold (block_on more) c (following steps store d) ≡ fold (block_on store) c (following steps store d)
+  fold_same : (steps : ℕ) (c : Standings) (d : Digest) → is_stored store d ≡ true
+      → fold (block_on more) c (following steps store d) ≡ fold (block_on store) c (following steps store d)
   fold_same zero c d stored = refl
   fold_same (suc steps) c d stored = by (block_at store d) refl (λ p before. fold_same steps c p before)
     where
@@ -116,7 +124,8 @@ module _ (store : List Block) (b : Block) (led : LeadBack store) (other : digest
           let prefix : List Digest = following steps store x.cert.block in
           fold-append (block_on more) c prefix (d ∷ [])
           ∙ ap (λ (s : Standings). block_on more s d) (same x.cert.block (led.parents d x found))
-          ∙ ap (λ (o : Option Block). option_map_or (λ y. applied (fold (block_on store) c prefix) (lists_of y)) o (fold (block_on store) c prefix)) (same_at d stored)
+          ∙ ap (λ (o : Option Block). option_map_or (λ y. applied (fold (block_on store) c prefix) (lists_of y)) o (fold (block_on store) c prefix))
+          (same_at d stored)
           ∙ sym (fold-append (block_on store) c prefix (d ∷ []))
 
   state_same : (s : Parameters) (d : Digest) → is_stored store d ≡ true
@@ -140,7 +149,8 @@ clashes_parts true other none = absurd (cc)
 clashes_parts false other none = (refl, none)
 
 -- a block that is put into a store, and what holds then
-module _ (store : List Block) (b : Block) (led : LeadBack store) (alone : clashes store (block_digest b) b ≡ false) (parent : is_stored store b.cert.block ≡ true) where
+module _ (store : List Block) (b : Block) (led : LeadBack store) (alone : clashes store (block_digest b) b ≡ false)
+    (parent : is_stored store b.cert.block ≡ true) where
   other_than_first : digest_eq (block_digest b) first_digest ≡ false
   other_than_first = (clashes_parts (digest_eq (block_digest b) first_digest) (is_other (block_at store (block_digest b)) b) alone).0
 
@@ -163,13 +173,15 @@ module _ (store : List Block) (b : Block) (led : LeadBack store) (alone : clashe
     | inr new ↦ rw new (state_same store b led other_than_first parent s d stored)
   ]
 
-  pub of_with : (s : Parameters) (kept : List Kept) → AreOf (record { setting = s; blocks = store }) kept → AreOf (record { setting = s; blocks = with_block b store }) kept
+  pub of_with : (s : Parameters) (kept : List Kept) → AreOf (record { setting = s; blocks = store }) kept
+      → AreOf (record { setting = s; blocks = with_block b store }) kept
   of_with s kept are =
       All-weaker (IsOf (record { setting = s; blocks = store })) (IsOf (record { setting = s; blocks = with_block b store }))
       (λ k is. record { stored = stored_with k.block is.stored; same = is.same ∙ sym (state_with s k.block is.stored) }) kept are
 
 -- the cache entry of a block
-pub kept_is : (s : Stored) (kept : List Kept) (d : Digest) (k : Kept) → AreOf s kept → find (λ (e : Kept). digest_eq e.block d) kept ≡ Some k → k.chain ≡ chain_state_of s d
+pub kept_is : (s : Stored) (kept : List Kept) (d : Digest) (k : Kept) → AreOf s kept
+    → find (λ (e : Kept). digest_eq e.block d) kept ≡ Some k → k.chain ≡ chain_state_of s d
 kept_is s [] d k are found = absurd (cc)
 kept_is s (e ∷ es) d k are found = by (digest_eq e.block d) refl (λ later. kept_is s es d k (All-tail (IsOf s) e es are) later)
   where
@@ -184,13 +196,15 @@ kept_is s (e ∷ es) d k are found = by (digest_eq e.block d) refl (λ later. ke
         rw (← k_is) (of.same ∙ ap (chain_state_of s) ((digest_eq_decides e.block d).0 is))
     by false is further = further (ap (λ (t : Bool). cond t (Some e) rest) (sym is) ∙ found)
 
-pub alone_in : (s : Parameters) (store : List Block) (now : Stored) (d : Digest) (b : Block) → record { setting = s; blocks = store } ≡ now → d ≡ block_digest b → clashes now.blocks d b ≡ false
+pub alone_in : (s : Parameters) (store : List Block) (now : Stored) (d : Digest) (b : Block) → record { setting = s; blocks = store } ≡ now
+    → d ≡ block_digest b → clashes now.blocks d b ≡ false
     → clashes store (block_digest b) b ≡ false
 alone_in s store now d b seen own alone = rw (ap (λ (x : Stored). x.blocks) seen, ← own) alone
 
 -- The store adds a block where the caller sees these blocks: the cache entries stay right, and the chain state of the
 -- block is its parent's with the block applied.
-module _ (s : Parameters) (store new : List Block) (now : Stored) (d : Digest) (b : Block) (seen : record { setting = s; blocks = store } ≡ now) (led : LeadBack store) (own : d ≡ block_digest b)
+module _ (s : Parameters) (store new : List Block) (now : Stored) (d : Digest) (b : Block)
+    (seen : record { setting = s; blocks = store } ≡ now) (led : LeadBack store) (own : d ≡ block_digest b)
     (alone : clashes now.blocks d b ≡ false) (parent : is_stored now.blocks b.cert.block ≡ true) (put : new ≡ with_block b store) where
   same_blocks : store ≡ now.blocks
   same_blocks = ap (λ (x : Stored). x.blocks) seen
@@ -210,7 +224,8 @@ module _ (s : Parameters) (store new : List Block) (now : Stored) (d : Digest) (
 
     pub put_chain : chain_state_of (record { setting = s; blocks = new }) d ≡ applied (chain_state_of now b.cert.block) (lists_of b)
     put_chain = rw (put, own) (one_on s (with_block b store) (block_digest b) b (led_with store b led alone_here parent_here) found
-        ∙ ap (λ (c : Standings). applied c (lists_of b)) (state_with store b led alone_here parent_here s b.cert.block parent_here ∙ ap (λ (x : Stored). chain_state_of x b.cert.block) seen))
+        ∙ ap (λ (c : Standings). applied c (lists_of b))
+        (state_with store b led alone_here parent_here s b.cert.block parent_here ∙ ap (λ (x : Stored). chain_state_of x b.cert.block) seen))
 
 -- nothing is stored yet
 pub led_at_first : LeadBack []

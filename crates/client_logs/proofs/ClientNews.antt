@@ -30,7 +30,8 @@ stand_on txs p q (inl same) s = subst (Stand txs) (sym same) s
 stand_on txs p q (inr h) s =
     let (rest, is) = h.0.later in
     let own : p.own ≡ q.own = sym (ap (λ (x : Known Tx). x.own) h.0.same) in
-    subst (λ (o : List ℕ). Stands q.seen (record { own = o; list = txs })) own (subst (λ (l : List Tx). Stands l (record { own = p.own; list = txs })) is (stands_within p.seen rest p.own txs s))
+    subst (λ (o : List ℕ). Stands q.seen (record { own = o; list = txs })) own
+    (subst (λ (l : List Tx). Stands l (record { own = p.own; list = txs })) is (stands_within p.seen rest p.own txs s))
 
 held_on : (txs : List Tx) (p q : Known Tx) → Hears p q → Held txs p → Held txs q
 held_on txs p q (inl same) s = subst (Held txs) (sym same) s
@@ -74,7 +75,8 @@ none_hears : (ps : List (Known Tx)) → AllZip Hears ps ps
 none_hears [] = tt
 none_hears (p ∷ ps) = (inl refl, none_hears ps)
 
-pub one_hears : (ps : List (Known Tx)) (k : ℕ) (d q : Known Tx) → k < length ps → HasLooked (get_or ps k d) q → IsArrivals q.seen → AllZip Hears ps (slice_set ps k q)
+pub one_hears : (ps : List (Known Tx)) (k : ℕ) (d q : Known Tx) → k < length ps → HasLooked (get_or ps k d) q → IsArrivals q.seen
+    → AllZip Hears ps (slice_set ps k q)
 one_hears [] k d q lt h a = absurd (omega (arith, lt))
 one_hears (p ∷ ps) zero d q lt h a = (inr (h, a), none_hears ps)
 one_hears (p ∷ ps) (suc k) d q lt h a = (inl refl, one_hears ps k d q (omega (arith, lt)) h a)
@@ -93,7 +95,9 @@ still_of logs c d old id count next fault own z =
       passes = own;
       parts = keeps One one_on ps qs z old.parts;
       within = (let w = old.within in omega (arith, w, tries, count));
-      stand = subst (λ (l : List Tx). All (Stand l) qs) first (keeps (Stand (numbered c.id (tried c.next c.fault))) (stand_on (numbered c.id (tried c.next c.fault))) ps qs z old.stand);
-      held = λ is. subst (λ (l : List Tx). All (Held l) qs) done (keeps (Held (numbered c.id c.next)) (held_on (numbered c.id c.next)) ps qs z (old.held (sym fault ∙ is)));
+      stand = subst (λ (l : List Tx). All (Stand l) qs) first
+          (keeps (Stand (numbered c.id (tried c.next c.fault))) (stand_on (numbered c.id (tried c.next c.fault))) ps qs z old.stand);
+      held = λ is. subst (λ (l : List Tx). All (Held l) qs) done
+          (keeps (Held (numbered c.id c.next)) (held_on (numbered c.id c.next)) ps qs z (old.held (sym fault ∙ is)));
       full = λ is. subst (λ (t : Tx). SomeFull t qs) then (some_full_on (numbered_tx c.id (c.next + 1)) ps qs z (old.full (sym fault ∙ is)));
     }

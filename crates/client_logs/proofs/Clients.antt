@@ -37,7 +37,8 @@ module _ (tx : Tx) (txs : List Tx) where
   all_stand [] [] z a = All-nil (Stand (txs ++ tx ∷ []))
   all_stand [] (q ∷ qs) z a = absurd z
   all_stand (p ∷ ps) [] z a = absurd z
-  all_stand (p ∷ ps) (q ∷ qs) z a = All-cons (Stand (txs ++ tx ∷ [])) q qs (by z.0 (All-head (Stand txs) p ps a)) (all_stand ps qs z.1 (All-tail (Stand txs) p ps a))
+  all_stand (p ∷ ps) (q ∷ qs) z a =
+      All-cons (Stand (txs ++ tx ∷ [])) q qs (by z.0 (All-head (Stand txs) p ps a)) (all_stand ps qs z.1 (All-tail (Stand txs) p ps a))
     where
       by : MaySubmit tx p q → Stand txs p → Stand (txs ++ tx ∷ []) q
       by (inl same) s = subst (Stand (txs ++ tx ∷ [])) (sym same) (record { rise = s.rise; stand = stand_more p.seen p.own txs tx s.stand })
@@ -47,7 +48,8 @@ module _ (tx : Tx) (txs : List Tx) where
   all_held [] [] z a = All-nil (Held (txs ++ tx ∷ []))
   all_held [] (q ∷ qs) z a = absurd z
   all_held (p ∷ ps) [] z a = absurd z
-  all_held (p ∷ ps) (q ∷ qs) z a = All-cons (Held (txs ++ tx ∷ [])) q qs (held_after p q tx z.0.0 txs z.0.1 (All-head (Held txs) p ps a)) (all_held ps qs z.1 (All-tail (Held txs) p ps a))
+  all_held (p ∷ ps) (q ∷ qs) z a = All-cons (Held (txs ++ tx ∷ [])) q qs (held_after p q tx z.0.0 txs z.0.1 (All-head (Held txs) p ps a))
+      (all_held ps qs z.1 (All-tail (Held txs) p ps a))
 
   all_one : (ps qs : List (Known Tx)) → AllZip (MaySubmit tx) ps qs → All One ps → All One qs
   all_one [] [] z a = All-nil One
@@ -60,14 +62,16 @@ module _ (tx : Tx) (txs : List Tx) where
       by (inr h) one = ap (λ (x : Known Tx). x.parts) h.1.pass ∙ one
 
 -- every log accepted the next transaction
-pub took : (logs : List Opened) (c d : Client) → OfClient logs c → c.fault ≡ None → c.next < c.count → d.id ≡ c.id → d.count ≡ c.count → d.next ≡ c.next + 1 → d.fault ≡ None
+pub took : (logs : List Opened) (c d : Client) → OfClient logs c → c.fault ≡ None → c.next < c.count → d.id ≡ c.id → d.count ≡ c.count
+    → d.next ≡ c.next + 1 → d.fault ≡ None
     → AllZip IsPassOf logs d.passes.items → AllZip (MaySubmit (numbered_tx c.id (c.next + 1))) c.passes.items d.passes.items
     → ByFirst (numbered_tx c.id (c.next + 1)) (length c.passes.items) c.passes.items d.passes.items → OfClient logs d
 took logs c d old fine less id count next still own may all =
     let tx : Tx = numbered_tx c.id (c.next + 1) in
     let ps = c.passes.items in
     let qs = d.passes.items in
-    let more : numbered c.id c.next ++ tx ∷ [] ≡ numbered d.id d.next = sym (numbered_more c.id c.next) ∙ ap (λ (k : ℕ). numbered k (c.next + 1)) (sym id) ∙ ap (numbered d.id) (sym next) in
+    let more : numbered c.id c.next ++ tx ∷ [] ≡ numbered d.id d.next =
+    sym (numbered_more c.id c.next) ∙ ap (λ (k : ℕ). numbered k (c.next + 1)) (sym id) ∙ ap (numbered d.id) (sym next) in
     let before : tried c.next c.fault ≡ c.next = ap (tried c.next) fine in
     let after : d.next ≡ tried d.next d.fault = sym (ap (tried d.next) still) in
     record {
@@ -81,14 +85,16 @@ took logs c d old fine less id count next still own may all =
     }
 
 -- one log refused it
-pub refused : (logs : List Opened) (c d : Client) (fault : SubmitFault) → OfClient logs c → c.fault ≡ None → c.next < c.count → d.id ≡ c.id → d.count ≡ c.count → d.next ≡ c.next → d.fault ≡ Some fault
+pub refused : (logs : List Opened) (c d : Client) (fault : SubmitFault) → OfClient logs c → c.fault ≡ None → c.next < c.count → d.id ≡ c.id
+    → d.count ≡ c.count → d.next ≡ c.next → d.fault ≡ Some fault
     → AllZip IsPassOf logs d.passes.items → AllZip (MaySubmit (numbered_tx c.id (c.next + 1))) c.passes.items d.passes.items
     → (fault ≡ Full → SomeFull (numbered_tx c.id (c.next + 1)) d.passes.items) → OfClient logs d
 refused logs c d fault old fine less id count next stopped own may full =
     let tx : Tx = numbered_tx c.id (c.next + 1) in
     let ps = c.passes.items in
     let qs = d.passes.items in
-    let more : numbered c.id c.next ++ tx ∷ [] ≡ numbered d.id (d.next + 1) = sym (numbered_more c.id c.next) ∙ ap (λ (k : ℕ). numbered k (c.next + 1)) (sym id) ∙ ap (λ (k : ℕ). numbered d.id (k + 1)) (sym next) in
+    let more : numbered c.id c.next ++ tx ∷ [] ≡ numbered d.id (d.next + 1) = sym (numbered_more c.id c.next)
+    ∙ ap (λ (k : ℕ). numbered k (c.next + 1)) (sym id) ∙ ap (λ (k : ℕ). numbered d.id (k + 1)) (sym next) in
     let before : tried c.next c.fault ≡ c.next = ap (tried c.next) fine in
     let after : d.next + 1 ≡ tried d.next d.fault = sym (ap (tried d.next) stopped) in
     let same : tx ≡ numbered_tx d.id (d.next + 1) = ap (λ (k : ℕ). numbered_tx k (c.next + 1)) (sym id) ∙ ap (λ (k : ℕ). numbered_tx d.id (k + 1)) (sym next) in
@@ -132,7 +138,8 @@ seen_on (p ∷ ps) (q ∷ qs) [] a b = absurd b
 seen_on (p ∷ ps) (q ∷ qs) (r ∷ rs) a b = (prefix_trans p.seen q.seen r.seen a.0 b.0, seen_on ps qs rs a.1 b.1)
 
 -- a client that has submitted nothing
-pub of_fresh : (c : Client) → c.next ≡ 0 → c.fault ≡ None → (logs : List Opened) → AllZip IsPassOf logs c.passes.items → All IsFresh c.passes.items → OfClient logs c
+pub of_fresh : (c : Client) → c.next ≡ 0 → c.fault ≡ None → (logs : List Opened) → AllZip IsPassOf logs c.passes.items
+    → All IsFresh c.passes.items → OfClient logs c
 of_fresh c next fault logs own fresh =
     let none : tried c.next c.fault ≡ 0 = ap (tried c.next) fault ∙ next in record {
       passes = own;

@@ -33,7 +33,8 @@ member_is tx (x ∷ txs) = ap (λ (b : Bool). b || is_member tx_eq txs tx) (same
 
 -- distinct transactions that a list holds are at most as many as its entries
 few_of : (xs ys : List Tx) → AreDistinct xs → ((t : Tx) → holds t xs ≡ true → holds t ys ≡ true) → length xs ≤ length ys
-few_of xs ys distinct inside = length-le_from_is_member same_tx xs ys (IsDistinct-from_AllPairs tx_eq_decides xs distinct) (λ t is. member_is t ys ∙ inside t (sym (member_is t xs) ∙ is))
+few_of xs ys distinct inside = length-le_from_is_member same_tx xs ys (IsDistinct-from_AllPairs tx_eq_decides xs distinct)
+    (λ t is. member_is t ys ∙ inside t (sym (member_is t xs) ∙ is))
 
 -- ---- lists that hold a transaction
 
@@ -85,7 +86,8 @@ upto_one (suc b) y = elim (cases_Bool (y == b)) [
   where
     upto_none : (b y : ℕ) → b ≤ y → upto b (λ x. if y == x then 1 else 0) ≡ 0
     upto_none zero y le = refl
-    upto_none (suc b) y le = (let other : (y == b) ≡ false = grind (arith, nat_tests) in let rest = upto_none b y (omega (arith, le)) in rw other (omega (arith, rest)))
+    upto_none (suc b) y le =
+        (let other : (y == b) ≡ false = grind (arith, nat_tests) in let rest = upto_none b y (omega (arith, le)) in rw other (omega (arith, rest)))
 
 upto_both : (b : ℕ) (f g : ℕ → ℕ) → upto b (λ x. f x + g x) ≡ upto b f + upto b g
 upto_both zero f g = refl
@@ -99,7 +101,8 @@ upto_zero (suc b) = omega (arith, upto_zero b)
 upto_times : (b : ℕ) (xs : List ℕ) → upto b (λ x. times x xs) ≤ length xs
 upto_times b [] = (let z = upto_zero b in omega (arith, z))
 upto_times b (y ∷ ys) =
-    let both : upto b (λ x. (if y == x then 1 else 0) + times x ys) ≡ upto b (λ x. if y == x then 1 else 0) + upto b (λ x. times x ys) = upto_both b (λ x. if y == x then 1 else 0) (λ x. times x ys) in
+    let both : upto b (λ x. (if y == x then 1 else 0) + times x ys) ≡ upto b (λ x. if y == x then 1 else 0) + upto b (λ x. times x ys) =
+    upto_both b (λ x. if y == x then 1 else 0) (λ x. times x ys) in
     let one = upto_one b y in
     let rest = upto_times b ys in
     omega (arith, both, one, rest)
@@ -118,7 +121,8 @@ in_span (suc n) a x le lt = elim (cases_Bool (a == x)) [
 -- where some numbers are the places of a list, there are at least as many
 as_many : (log : List Tx) (own : List ℕ) → ((x : ℕ) → times x own ≡ times x (places log)) → length log ≤ length own
 as_many log own owned =
-    let many = upto_many (length log) (λ x. times x own) (λ x lt. (let one = in_span (length log) 0 x (omega arith) (omega (arith, lt)) in let same = owned x in omega (arith, one, same))) in
+    let many = upto_many (length log) (λ x. times x own)
+    (λ x lt. (let one = in_span (length log) 0 x (omega arith) (omega (arith, lt)) in let same = owned x in omega (arith, one, same))) in
     let few = upto_times (length log) own in
     omega (arith, many, few)
 
@@ -171,7 +175,8 @@ rise_le a [] b r = r
 rise_le a (k ∷ ks) b r = (let rest = rise_le (k + 1) ks b r.1 in let first = r.0 in omega (arith, rest, first))
 
 -- one entry further
-further : (a : ℕ) (h : Tx) (log : List Tx) (c : ℕ) (ks : List ℕ) (txs : List Tx) (b : ℕ) → a + 1 ≤ c → Rise c ks b → Pairs a (h ∷ log) ks txs → Pairs (a + 1) log ks txs
+further : (a : ℕ) (h : Tx) (log : List Tx) (c : ℕ) (ks : List ℕ) (txs : List Tx) (b : ℕ) → a + 1 ≤ c → Rise c ks b
+    → Pairs a (h ∷ log) ks txs → Pairs (a + 1) log ks txs
 further a h log c [] [] b le r p = tt
 further a h log c [] (t ∷ ts) b le r p = p
 further a h log c (k ∷ ks) [] b le r p = p
@@ -207,7 +212,8 @@ skipped p h log (t ∷ ts) part = elim (cases_Bool (p h)) [
 ]
 
 -- the transactions at the places are a part of all that pass the test
-passing_part : (p : Tx → Bool) (a : ℕ) (log : List Tx) (ks : List ℕ) (txs : List Tx) → Rise a ks (a + length log) → Pairs a log ks txs → All (λ t. p t ≡ true) txs → Part txs (filter p log)
+passing_part : (p : Tx → Bool) (a : ℕ) (log : List Tx) (ks : List ℕ) (txs : List Tx) → Rise a ks (a + length log) → Pairs a log ks txs
+    → All (λ t. p t ≡ true) txs → Part txs (filter p log)
 passing_part p a log [] [] r pairs all = tt
 passing_part p a log [] (t ∷ ts) r pairs all = absurd pairs
 passing_part p a log (k ∷ ks) [] r pairs all = absurd pairs
@@ -220,14 +226,18 @@ passing_part p a (h ∷ log) (k ∷ ks) (t ∷ ts) r pairs all = elim (cases_Boo
       let same : t ≡ h = cc (found) in
       let passes : p h ≡ true = subst (λ (u : Tx). p u ≡ true) same (All-head (λ u. p u ≡ true) t ts all) in
       let end : k + 1 ≤ a + length (h ∷ log) = rise_le (k + 1) ks (a + length (h ∷ log)) r.1 in
-      let more : Rise (a + 1) ks (a + 1 + length log) = subst (λ (c : ℕ). Rise (a + 1) ks c) (omega arith) (subst (λ (c : ℕ). Rise (c + 1) ks (a + length (h ∷ log))) (sym here) r.1) in
-      let rest = passing_part p (a + 1) log ks ts more (further a h log (k + 1) ks ts (a + length (h ∷ log)) (omega (arith, here)) r.1 pairs.1) (All-tail (λ u. p u ≡ true) t ts all) in
+      let more : Rise (a + 1) ks (a + 1 + length log) =
+      subst (λ (c : ℕ). Rise (a + 1) ks c) (omega arith) (subst (λ (c : ℕ). Rise (c + 1) ks (a + length (h ∷ log))) (sym here) r.1) in
+      let rest = passing_part p (a + 1) log ks ts more
+      (further a h log (k + 1) ks ts (a + length (h ∷ log)) (omega (arith, here)) r.1 pairs.1) (All-tail (λ u. p u ≡ true) t ts all) in
       rw passes (inl (same, rest)))
   | inr not_so ↦ (
       let first = r.0 in
       let above : a + 1 ≤ k = grind (arith, nat_tests) in
       let more : Rise (a + 1) (k ∷ ks) (a + 1 + length log) = subst (λ (c : ℕ). Rise (a + 1) (k ∷ ks) c) (omega arith) (above, r.1) in
-      skipped p h log (t ∷ ts) (passing_part p (a + 1) log (k ∷ ks) (t ∷ ts) more (further a h log (a + 1) (k ∷ ks) (t ∷ ts) (a + length (h ∷ log)) (omega arith) (above, r.1) pairs) all))
+      skipped p h log (t ∷ ts)
+      (passing_part p (a + 1) log (k ∷ ks) (t ∷ ts) more
+      (further a h log (a + 1) (k ∷ ks) (t ∷ ts) (a + length (h ∷ log)) (omega arith) (above, r.1) pairs) all))
 ]
 
 -- ---- one list
@@ -237,7 +247,8 @@ holds_all txs = among txs txs (λ t is. is)
   where
     among : (xs ys : List Tx) → ((t : Tx) → holds t xs ≡ true → holds t ys ≡ true) → All (λ t. holds t ys ≡ true) xs
     among [] ys inside = All-nil (λ t. holds t ys ≡ true)
-    among (x ∷ xs) ys inside = All-cons (λ t. holds t ys ≡ true) x xs (inside x (holds_head x xs)) (among xs ys (λ t is. inside t (or_right (tx_eq x t) (holds t xs) is)))
+    among (x ∷ xs) ys inside = All-cons (λ t. holds t ys ≡ true) x xs (inside x (holds_head x xs))
+        (among xs ys (λ t is. inside t (or_right (tx_eq x t) (holds t xs) is)))
 
 filtered_in : (p : Tx → Bool) (log : List Tx) (t : Tx) → holds t (filter p log) ≡ true → p t ≡ true
 filtered_in p [] t is = absurd (false≢true is)
@@ -251,7 +262,8 @@ filtered_in p (x ∷ log) t is = elim (cases_Bool (p x)) [
   | inr not_so ↦ (let kept : holds t (filter p log) ≡ true = rw not_so at is in filtered_in p log t kept)
 ]
 
-one_list : (log : List Tx) (own : List ℕ) (txs : List Tx) → AreDistinct log → Rise 0 own (length log) → StandIn log own txs → length own ≡ length txs → filter (λ t. holds t txs) log ≡ txs
+one_list : (log : List Tx) (own : List ℕ) (txs : List Tx) → AreDistinct log → Rise 0 own (length log) → StandIn log own txs
+    → length own ≡ length txs → filter (λ t. holds t txs) log ≡ txs
 one_list log own txs distinct rise stand same =
     let p : Tx → Bool = λ t. holds t txs in
     let part = passing_part p 0 log own txs (subst (λ (c : ℕ). Rise 0 own c) (omega arith) rise) (pairs_of log own txs stand same) (holds_all txs) in
@@ -276,7 +288,8 @@ few_each log (c ∷ cs) all =
     omega (arith, first, rest)
 
 -- where they are as many in all, each list has as many places as entries
-each_same : (log : List Tx) (claims : List Claim) → All (Stands log) claims → total (λ c. length c.list) claims ≤ total (λ c. length c.own) claims → All (λ (c : Claim). length c.own ≡ length c.list) claims
+each_same : (log : List Tx) (claims : List Claim) → All (Stands log) claims
+    → total (λ c. length c.list) claims ≤ total (λ c. length c.own) claims → All (λ (c : Claim). length c.own ≡ length c.list) claims
 each_same log [] all le = All-nil (λ (c : Claim). length c.own ≡ length c.list)
 each_same log (c ∷ cs) all le =
     let first = few_own log c.own c.list (All-head (Stands log) c cs all).stand in
@@ -324,9 +337,11 @@ module _ (log : List Tx) (claims : List Claim) (shared : AreShared log claims) w
     -- each transaction of a list is at a place of its own pass
     pub stands_at_own : (k : ℕ) (c : Claim) (t : Tx) → slice_get claims k ≡ Some c → holds t c.list ≡ true → StandsAt log c.own t
     stands_at_own k c t found is =
-        stands_whole log c.own c.list t (one_of (Stands log) claims k c shared.each found).stand (one_of (λ (x : Claim). length x.own ≡ length x.list) claims k c same_counts found) is
+        stands_whole log c.own c.list t (one_of (Stands log) claims k c shared.each found).stand
+        (one_of (λ (x : Claim). length x.own ≡ length x.list) claims k c same_counts found) is
 
-    filtered : (cs : List Claim) → All (Stands log) cs → All (λ (c : Claim). length c.own ≡ length c.list) cs → All (λ (l : List Tx). filter (λ t. holds t l) log ≡ l) (map (λ c. c.list) cs)
+    filtered : (cs : List Claim) → All (Stands log) cs → All (λ (c : Claim). length c.own ≡ length c.list) cs
+        → All (λ (l : List Tx). filter (λ t. holds t l) log ≡ l) (map (λ c. c.list) cs)
     filtered [] stands same = All-nil (λ (l : List Tx). filter (λ t. holds t l) log ≡ l)
     filtered (c ∷ cs) stands same =
         let first = All-head (Stands log) c cs stands in
@@ -374,7 +389,8 @@ module _ (log : List Tx) (claims : List Claim) (shared : AreShared log claims) w
 
   -- ---- no log is full
 
-  short_each : (cs : List Claim) → All (Stands log) cs → (k : ℕ) (c : Claim) (t : Tx) → slice_get cs k ≡ Some c → holds t c.list ≡ true → holds t log ≡ false → total (λ c. length c.own) cs < total (λ c. length c.list) cs
+  short_each : (cs : List Claim) → All (Stands log) cs → (k : ℕ) (c : Claim) (t : Tx) → slice_get cs k ≡ Some c → holds t c.list ≡ true
+      → holds t log ≡ false → total (λ c. length c.own) cs < total (λ c. length c.list) cs
   short_each [] all k c t found is lacks = absurd (cc)
   short_each (x ∷ cs) all zero c t found is lacks =
       let same : x ≡ c = cc (found) in
@@ -387,7 +403,8 @@ module _ (log : List Tx) (claims : List Claim) (shared : AreShared log claims) w
       omega (arith, first, rest)
 
   -- where all lists together fit a log, none of them finds it full
-  pub never_full : length (all_of claims) ≤ 65536 → (k : ℕ) (c : Claim) (t : Tx) → slice_get claims k ≡ Some c → holds t c.list ≡ true → holds t log ≡ false → length log < 65536
+  pub never_full : length (all_of claims) ≤ 65536 → (k : ℕ) (c : Claim) (t : Tx) → slice_get claims k ≡ Some c → holds t c.list ≡ true
+      → holds t log ≡ false → length log < 65536
   never_full fit k c t found is lacks =
       let a = places_count in
       let b = short_each claims shared.each k c t found is lacks in

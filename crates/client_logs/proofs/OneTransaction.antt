@@ -16,7 +16,8 @@ module _ (tx : Tx) where
   none_yet [] = tt
   none_yet (p ∷ ps) = (refl, none_yet ps)
 
-  pub one_more : (k : ℕ) (ps qs : List (Known Tx)) (d q : Known Tx) → k < length qs → ByFirst tx k ps qs → HasPlaced tx (get_or qs k d) q → ByFirst tx (k + 1) ps (slice_set qs k q)
+  pub one_more : (k : ℕ) (ps qs : List (Known Tx)) (d q : Known Tx) → k < length qs → ByFirst tx k ps qs → HasPlaced tx (get_or qs k d) q
+      → ByFirst tx (k + 1) ps (slice_set qs k q)
   one_more k [] [] d q lt f h = absurd (omega (arith, lt))
   one_more k [] (x ∷ qs) d q lt f h = absurd f
   one_more zero (p ∷ ps) [] d q lt f h = absurd f
@@ -34,7 +35,8 @@ module _ (tx : Tx) where
   each_may zero (p ∷ ps) (q ∷ qs) f = (inl f.0, each_may zero ps qs f.1)
   each_may (suc k) (p ∷ ps) (q ∷ qs) f = (inr (Ok f.0.0, f.0.1), each_may k ps qs f.1)
 
-  pub or_one : (k : ℕ) (ps qs : List (Known Tx)) (d q : Known Tx) (answer : Result Placed SubmitFault) → ByFirst tx k ps qs → HasSubmitted (get_or qs k d) tx answer q → AllZip (MaySubmit tx) ps (slice_set qs k q)
+  pub or_one : (k : ℕ) (ps qs : List (Known Tx)) (d q : Known Tx) (answer : Result Placed SubmitFault) → ByFirst tx k ps qs
+      → HasSubmitted (get_or qs k d) tx answer q → AllZip (MaySubmit tx) ps (slice_set qs k q)
   or_one k [] [] d q answer f h = tt
   or_one k [] (x ∷ qs) d q answer f h = absurd f
   or_one zero (p ∷ ps) [] d q answer f h = absurd f

@@ -95,7 +95,8 @@ module _ (g : Graph) (places new : List Place) (depth count level u : ℕ) (path
         ];
     followed = λ w x k edge is.
         let was = followed_before level k (place_at places x) (sym (moved x) ∙ is) in
-        let settled : IsSettled (min was.0 level) (joined level (place_at places w)) = joined_settled level was.0 (place_at places w) (path.followed w x was.0 edge was.1) in
+        let settled : IsSettled (min was.0 level) (joined level (place_at places w)) =
+        joined_settled level was.0 (place_at places w) (path.followed w x was.0 edge was.1) in
         subst (λ (j : ℕ). IsSettled j (place_at new w)) was.2 (subst (IsSettled (min was.0 level)) (sym (moved w)) settled);
     ended = λ w x c edge is. let by = path.ended w x c edge (closed_was x c is) in (by.0, by.1, closed_is w by.0 by.2);
     grouped = λ w x c iw ix. path.grouped w x c (closed_was w c iw) (closed_was x c ix);
@@ -109,6 +110,7 @@ module _ (g : Graph) (places new : List Place) (depth count level u : ℕ) (path
     fresh = λ x is. passed.fresh x (unseen_before level (place_at places x) (sym (moved x) ∙ is));
     passed = λ x k w is below edge.
         let was = open_before level k (place_at places x) (sym (moved x) ∙ is) in
-        let above : IsAbove (min was.0 level) (joined level (place_at places w)) = joined_above level was.0 (place_at places w) (passed.passed x was.0 w was.1 below edge) in
+        let above : IsAbove (min was.0 level) (joined level (place_at places w)) =
+        joined_above level was.0 (place_at places w) (passed.passed x was.0 w was.1 below edge) in
         subst (λ (j : ℕ). IsAbove j (place_at new w)) was.2 (subst (IsAbove (min was.0 level)) (sym (moved w)) above);
   }

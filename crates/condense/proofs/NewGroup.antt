@@ -33,7 +33,8 @@ module _ (g : Graph) (places new : List Place) (depth count v : ℕ) (path : IsP
   walk_down : (a i : ℕ) → level_of (place_at places a) ≡ Some i → Walks (HasEdge g) v a
   walk_down a i is = elim leads [
     | inl none ↦ absurd (omega (arith, path.levels a i is))
-    | inr to ↦ walks_joined (HasEdge g) v to.0 a (walk_of_one (HasEdge g) v to.0 to.4) (path.walked a to.0 i to.1 (omega (arith, path.levels a i is, to.2)) is to.3)
+    | inr to ↦ walks_joined (HasEdge g) v to.0 a (walk_of_one (HasEdge g) v to.0 to.4)
+        (path.walked a to.0 i to.1 (omega (arith, path.levels a i is, to.2)) is to.3)
   ]
 
   pub entered : IsPath g new (depth + 1) count

@@ -65,8 +65,10 @@ less_work (p ∷ ps) (q ∷ qs) long less =
     let one : work q ≤ work p = less 0 in
     omega (arith, sum_by-cons work p ps, sum_by-cons work q qs)
 
-set_work : (ps new : List Place) (v : ℕ) (p q : Place) → v < length ps → place_at ps v ≡ p → new ≡ set ps v q → sum_by work new + work p ≡ sum_by work ps + work q
-set_work ps new v p q inside was is = ap (λ (qs : List Place). sum_by work qs + work p) is ∙ ap (λ (r : Place). sum_by work (set ps v q) + work r) (sym was) ∙ sum_by-set work ps v q Unseen inside
+set_work : (ps new : List Place) (v : ℕ) (p q : Place) → v < length ps → place_at ps v ≡ p → new ≡ set ps v q
+    → sum_by work new + work p ≡ sum_by work ps + work q
+set_work ps new v p q inside was is = ap (λ (qs : List Place). sum_by work qs + work p) is
+    ∙ ap (λ (r : Place). sum_by work (set ps v q) + work r) (sym was) ∙ sum_by-set work ps v q Unseen inside
 
 -- a pass continues
 pub record GoesOn (g : Graph) (old new : Pass) : Type 0 where
@@ -74,17 +76,21 @@ pub record GoesOn (g : Graph) (old new : Pass) : Type 0 where
   pub nearer : left new.places.items new.depth < left old.places.items old.depth
 
 goes_on : (g : Graph) (old new : Pass) → IsPass g old → length new.places.items ≡ length old.places.items → IsPath g new.places.items new.depth new.count
-    → left new.places.items new.depth < left old.places.items old.depth → new.count + left new.places.items new.depth ≤ old.count + left old.places.items old.depth → GoesOn g old new
+    → left new.places.items new.depth < left old.places.items old.depth
+    → new.count + left new.places.items new.depth ≤ old.count + left old.places.items old.depth → GoesOn g old new
 goes_on g old new pass long path nearer few = record {
   kept = record { same_length = long ∙ pass.same_length; path = path; few = omega (arith, pass.few) };
   nearer = nearer;
 }
 
-pub advance : (g : Graph) (old new : Pass) (step : Step) → length g.edges ≡ length g.vertices → IsPass g old → IsStep g old.places.items old.depth step → Moves old step new → GoesOn g old new
+pub advance : (g : Graph) (old new : Pass) (step : Step) → length g.edges ≡ length g.vertices → IsPass g old
+    → IsStep g old.places.items old.depth step → Moves old step new → GoesOn g old new
 advance g old new (Enter v) rows pass is moves =
     let inside : v < length old.places.items = omega (arith, is.0, pass.same_length) in
-    let path : IsPath g new.places.items (old.depth + 1) old.count = entered g old.places.items new.places.items old.depth old.count v pass.path inside is.1 is.2 moves.0 in
-    let sums : sum_by work new.places.items + 3 ≡ sum_by work old.places.items + 1 = set_work old.places.items new.places.items v Unseen (Open old.depth) inside is.1 moves.0 in
+    let path : IsPath g new.places.items (old.depth + 1) old.count =
+    entered g old.places.items new.places.items old.depth old.count v pass.path inside is.1 is.2 moves.0 in
+    let sums : sum_by work new.places.items + 3 ≡ sum_by work old.places.items + 1 =
+    set_work old.places.items new.places.items v Unseen (Open old.depth) inside is.1 moves.0 in
     goes_on g old new pass (ap length moves.0 ∙ length-set old.places.items v (Open old.depth))
     (subst (λ (d : ℕ). IsPath g new.places.items d new.count) (sym moves.1) (subst (λ (c : ℕ). IsPath g new.places.items (old.depth + 1) c) (sym moves.2) path))
     (omega (arith, moves.1, sums)) (omega (arith, moves.1, moves.2, sums))
@@ -92,13 +98,16 @@ advance g old new (Follow v) rows pass is moves =
     let inside : v < length old.places.items = omega (arith, is.2, pass.same_length) in
     let top : moves.0 ≡ is.0 = omega (arith, moves.1, is.1) in
     let written : new.places.items ≡ set old.places.items v (Followed is.0) = moves.2 ∙ ap (λ (k : ℕ). set old.places.items v (Followed k)) top in
-    let path : IsPath g new.places.items old.depth old.count = followed_now g old.places.items new.places.items old.depth old.count v is.0 pass.path rows is.1 inside is.3 is.4 written in
-    let sums : sum_by work new.places.items + 1 ≡ sum_by work old.places.items + 0 = set_work old.places.items new.places.items v (Open is.0) (Followed is.0) inside is.3 written in
+    let path : IsPath g new.places.items old.depth old.count =
+    followed_now g old.places.items new.places.items old.depth old.count v is.0 pass.path rows is.1 inside is.3 is.4 written in
+    let sums : sum_by work new.places.items + 1 ≡ sum_by work old.places.items + 0 =
+    set_work old.places.items new.places.items v (Open is.0) (Followed is.0) inside is.3 written in
     goes_on g old new pass (ap length moves.2 ∙ length-set old.places.items v (Followed moves.0))
     (subst (λ (d : ℕ). IsPath g new.places.items d new.count) (sym moves.3) (subst (λ (c : ℕ). IsPath g new.places.items old.depth c) (sym moves.4) path))
     (omega (arith, moves.3, sums)) (omega (arith, moves.3, moves.4, sums))
 advance g old new (Join level) rows pass is moves =
-    let path : IsPath g new.places.items (level + 1) old.count = joined_now g old.places.items new.places.items old.depth old.count level is.0 pass.path is.2 is.3 moves.1 in
+    let path : IsPath g new.places.items (level + 1) old.count =
+    joined_now g old.places.items new.places.items old.depth old.count level is.0 pass.path is.2 is.3 moves.1 in
     let low : level < old.depth = pass.path.levels is.0 level is.2 in
     let other : level + 1 ≢ old.depth = is.1 in
     let sums : sum_by work new.places.items ≤ sum_by work old.places.items = less_work old.places.items new.places.items moves.0
@@ -110,7 +119,8 @@ advance g old new Close rows pass is moves =
     let top : is.0 ≡ new.depth = omega (arith, moves.2, is.1) in
     let moved : (v : ℕ) → place_at new.places.items v ≡ closed is.0 old.count (place_at old.places.items v) =
     λ v. moves.1 v ∙ ap (λ (k : ℕ). closed k old.count (place_at old.places.items v)) (sym top) in
-    let path : IsPath g new.places.items is.0 (old.count + 1) = closed_now g old.places.items new.places.items old.depth old.count is.0 pass.path is.1 is.2 moved in
+    let path : IsPath g new.places.items is.0 (old.count + 1) =
+    closed_now g old.places.items new.places.items old.depth old.count is.0 pass.path is.1 is.2 moved in
     let sums : sum_by work new.places.items ≤ sum_by work old.places.items = less_work old.places.items new.places.items moves.0
     (λ v. subst (λ (p : Place). work p ≤ work (place_at old.places.items v)) (sym (moved v)) (closed_work is.0 old.count (place_at old.places.items v))) in
     goes_on g old new pass moves.0
@@ -118,14 +128,16 @@ advance g old new Close rows pass is moves =
     (omega (arith, moves.2, sums)) (omega (arith, moves.2, moves.3, sums))
 
 -- edges that were passed stay so over a step
-pub still_passed : (g : Graph) (old new : Pass) (step : Step) (resume : List ℕ) → length g.edges ≡ length g.vertices → IsPass g old → IsStep g old.places.items old.depth step → Moves old step new
+pub still_passed : (g : Graph) (old new : Pass) (step : Step) (resume : List ℕ) → length g.edges ≡ length g.vertices → IsPass g old
+    → IsStep g old.places.items old.depth step → Moves old step new
     → ArePassed g old.places.items resume → ArePassed g new.places.items resume
 still_passed g old new (Enter v) resume rows pass is moves =
     entered_passed g old.places.items new.places.items old.depth old.count v pass.path (omega (arith, is.0, pass.same_length)) is.1 is.2 moves.0 resume
 still_passed g old new (Follow v) resume rows pass is moves =
     let top : moves.0 ≡ is.0 = omega (arith, moves.1, is.1) in
     let written : new.places.items ≡ set old.places.items v (Followed is.0) = moves.2 ∙ ap (λ (k : ℕ). set old.places.items v (Followed k)) top in
-    followed_passed g old.places.items new.places.items old.depth old.count v is.0 pass.path rows is.1 (omega (arith, is.2, pass.same_length)) is.3 is.4 written resume
+    followed_passed g old.places.items new.places.items old.depth old.count v is.0 pass.path rows is.1
+    (omega (arith, is.2, pass.same_length)) is.3 is.4 written resume
 still_passed g old new (Join level) resume rows pass is moves =
     joined_passed g old.places.items new.places.items old.depth old.count level is.0 pass.path is.2 is.3 moves.1 resume
 still_passed g old new Close resume rows pass is moves =
@@ -135,7 +147,8 @@ still_passed g old new Close resume rows pass is moves =
     closed_passed g old.places.items new.places.items old.depth old.count is.0 pass.path is.1 is.2 moved resume
 
 -- at the top, what is passed is settled
-pub passed_at_top : (g : Graph) (pass : Pass) (resume : List ℕ) (top : ℕ) → IsPass g pass → ArePassed g pass.places.items resume → pass.depth ≡ top + 1 → TopIsPassed g pass.places.items resume top
+pub passed_at_top : (g : Graph) (pass : Pass) (resume : List ℕ) (top : ℕ) → IsPass g pass → ArePassed g pass.places.items resume
+    → pass.depth ≡ top + 1 → TopIsPassed g pass.places.items resume top
 passed_at_top g pass resume top is passed on_top = λ v is_open u below edge.
     settled_at_top top (place_at pass.places.items u) (λ k at_k. omega (arith, is.path.levels u k at_k)) (passed.passed v top u is_open below edge)
 
@@ -157,7 +170,8 @@ passed_on g pass old new is passed long top_passed others = record {
 
 -- at the end
 module _ (g : Graph) (places : List Place) (count : ℕ) (groups : Groups) (long : length places ≡ length g.vertices) (path : IsPath g places 0 count)
-    (none : (v : ℕ) → v < length g.vertices → place_at places v ≢ Unseen) (numbers : groups.numbers ≡ map number_of places) (same_count : groups.count ≡ count) where
+    (none : (v : ℕ) → v < length g.vertices → place_at places v ≢ Unseen) (numbers : groups.numbers ≡ map number_of places)
+    (same_count : groups.count ≡ count) where
   number : ℕ → ℕ
   number v = get_or groups.numbers v 0
 

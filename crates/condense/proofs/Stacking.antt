@@ -28,7 +28,8 @@ entry_inside places depth path stack k below =
     seen_inside places (get_or path k 0) (on_seen (place_at places (get_or path k 0)) at.0 at.2)
 
 -- no vertex changes its level
-same_levels : (old new : List Place) (depth : ℕ) (path : List ℕ) → ((v : ℕ) → level_of (place_at new v) ≡ level_of (place_at old v)) → IsStack old depth path → IsStack new depth path
+same_levels : (old new : List Place) (depth : ℕ) (path : List ℕ) → ((v : ℕ) → level_of (place_at new v) ≡ level_of (place_at old v))
+    → IsStack old depth path → IsStack new depth path
 same_levels old new depth path same stack = record {
   each = λ k below. let at = stack.each k below in (at.0, at.1, same (get_or path k 0) ∙ at.2);
   all = λ v l is. stack.all v l (sym (same v) ∙ is);
@@ -36,7 +37,8 @@ same_levels old new depth path same stack = record {
   once = stack.once;
 }
 
-pub followed_stack : (old new : List Place) (depth v top : ℕ) (path : List ℕ) → v < length old → place_at old v ≡ Open top → new ≡ set old v (Followed top) → IsStack old depth path → IsStack new depth path
+pub followed_stack : (old new : List Place) (depth v top : ℕ) (path : List ℕ) → v < length old → place_at old v ≡ Open top
+    → new ≡ set old v (Followed top) → IsStack old depth path → IsStack new depth path
 followed_stack old new depth v top path inside was is stack =
     same_levels old new depth path
     (λ u. elim (cases_eq u v) [
@@ -53,13 +55,15 @@ at_end k count below past = elim (cases_lt k count) [
 ]
 
 -- a new group on top
-pub entered_stack : (old new : List Place) (depth v : ℕ) (path : List ℕ) → v < length old → place_at old v ≡ Unseen → new ≡ set old v (Open depth) → IsStack old depth path → IsStack new (depth + 1) (path ++ v ∷ [])
+pub entered_stack : (old new : List Place) (depth v : ℕ) (path : List ℕ) → v < length old → place_at old v ≡ Unseen
+    → new ≡ set old v (Open depth) → IsStack old depth path → IsStack new (depth + 1) (path ++ v ∷ [])
 entered_stack old new depth v path inside was is stack =
     let count : ℕ = length path in
     let long : length (path ++ v ∷ []) ≡ count + 1 = length_push path v in
     let last : get_or (path ++ v ∷ []) count 0 ≡ v = get_or_push path v 0 count refl in
     let before : (k : ℕ) → k < count → get_or (path ++ v ∷ []) k 0 ≡ get_or path k 0 = λ k below. get_or_append_left path (v ∷ []) 0 k below in
-    let new_at : level_of (place_at new v) ≡ Some depth = ap (λ (ps : List Place). level_of (place_at ps v)) is ∙ ap level_of (get_or-set_same old v (Open depth) Unseen inside) in
+    let new_at : level_of (place_at new v) ≡ Some depth = ap (λ (ps : List Place). level_of (place_at ps v)) is
+    ∙ ap level_of (get_or-set_same old v (Open depth) Unseen inside) in
     let other : (u : ℕ) → u ≢ v → level_of (place_at new u) ≡ level_of (place_at old u) =
     λ u apart. ap (λ (ps : List Place). level_of (place_at ps u)) is ∙ ap level_of (get_or-set_other old v u (Open depth) Unseen apart) in
     let unlike : (k : ℕ) → k < count → get_or path k 0 ≢ v =
@@ -67,7 +71,8 @@ entered_stack old new depth v path inside was is stack =
     let entry : (k : ℕ) → k < count → level_of (place_at new (get_or (path ++ v ∷ []) k 0)) ≡ level_of (place_at old (get_or path k 0)) =
     λ k below. ap (λ (u : ℕ). level_of (place_at new u)) (before k below) ∙ other (get_or path k 0) (unlike k below) in
     let top : (k : ℕ) → k < count + 1 → (k < count → ⊥) → level_of (place_at new (get_or (path ++ v ∷ []) k 0)) ≡ Some depth =
-    λ k below past. ap (λ (i : ℕ). level_of (place_at new (get_or (path ++ v ∷ []) i 0))) (at_end k count below past) ∙ ap (λ (u : ℕ). level_of (place_at new u)) last ∙ new_at in
+    λ k below past. ap (λ (i : ℕ). level_of (place_at new (get_or (path ++ v ∷ []) i 0))) (at_end k count below past)
+    ∙ ap (λ (u : ℕ). level_of (place_at new u)) last ∙ new_at in
     record {
       each = λ k below. elim (cases_lt k count) [
         | inl low ↦ let at = stack.each k low in (at.0, omega (arith, at.1), entry k low ∙ at.2)
@@ -94,10 +99,12 @@ entered_stack old new depth v path inside was is stack =
       once = λ j k in_j in_k same. elim (cases_lt j count) [
         | inl low_j ↦ elim (cases_lt k count) [
           | inl low_k ↦ stack.once j k low_j low_k (sym (before j low_j) ∙ same ∙ before k low_k)
-          | inr past_k ↦ absurd (unlike j low_j (sym (before j low_j) ∙ same ∙ ap (λ (i : ℕ). get_or (path ++ v ∷ []) i 0) (at_end k count (omega (arith, in_k, long)) (λ less. absurd (omega arith))) ∙ last))
+          | inr past_k ↦ absurd (unlike j low_j (sym (before j low_j) ∙ same
+              ∙ ap (λ (i : ℕ). get_or (path ++ v ∷ []) i 0) (at_end k count (omega (arith, in_k, long)) (λ less. absurd (omega arith))) ∙ last))
         ]
         | inr past_j ↦ elim (cases_lt k count) [
-          | inl low_k ↦ absurd (unlike k low_k (sym (before k low_k) ∙ sym same ∙ ap (λ (i : ℕ). get_or (path ++ v ∷ []) i 0) (at_end j count (omega (arith, in_j, long)) (λ less. absurd (omega arith))) ∙ last))
+          | inl low_k ↦ absurd (unlike k low_k (sym (before k low_k) ∙ sym same
+              ∙ ap (λ (i : ℕ). get_or (path ++ v ∷ []) i 0) (at_end j count (omega (arith, in_j, long)) (λ less. absurd (omega arith))) ∙ last))
           | inr past_k ↦ omega (arith, in_j, in_k, long, past_j, past_k)
         ]
       ];
@@ -116,7 +123,8 @@ joined_level level (Open j) k is = ap (λ (i : ℕ). Some (min i level)) (same_l
 joined_level level (Followed j) k is = ap (λ (i : ℕ). Some (min i level)) (same_level is)
 joined_level level (Closed c) k is = absurd (cc)
 
-pub joined_stack : (old new : List Place) (depth level : ℕ) (path : List ℕ) → ((v : ℕ) → place_at new v ≡ joined level (place_at old v)) → IsStack old depth path → IsStack new (level + 1) path
+pub joined_stack : (old new : List Place) (depth level : ℕ) (path : List ℕ) → ((v : ℕ) → place_at new v ≡ joined level (place_at old v))
+    → IsStack old depth path → IsStack new (level + 1) path
 joined_stack old new depth level path is stack =
     let back : (v l : ℕ) → level_of (place_at new v) ≡ Some l → (k : ℕ) × (level_of (place_at old v) ≡ Some k) × (l ≡ min k level) =
     λ v l at. joined_levels level (place_at old v) l (sym (ap level_of (is v)) ∙ at) in
@@ -188,7 +196,8 @@ none_closed places path level number = record {
   rest = λ v others. refl;
 }
 
-module _ (old new : List Place) (all path : List ℕ) (level number : ℕ) (stack : IsStack old (level + 1) all) (so_far : IsClosing old new all path level number) where
+module _ (old new : List Place) (all path : List ℕ) (level number : ℕ) (stack : IsStack old (level + 1) all)
+    (so_far : IsClosing old new all path level number) where
   pub still_inside : (k : ℕ) → k < length path → get_or path k 0 < length new
   still_inside k below =
       let entry : get_or all k 0 < length old = entry_inside old (level + 1) all stack k (omega (arith, below, so_far.short)) in
@@ -203,7 +212,8 @@ module _ (old new : List Place) (all path : List ℕ) (level number : ℕ) (stac
       omega (arith, one, past, below))
 
   -- one more entry is closed
-  pub one_closed : (at : ℕ) (less : List ℕ) → 0 < length path → at ≡ get_or path (length path - 1) 0 → level_of (place_at new at) ≡ Some level → less ≡ take (length path - 1) path
+  pub one_closed : (at : ℕ) (less : List ℕ) → 0 < length path → at ≡ get_or path (length path - 1) 0
+      → level_of (place_at new at) ≡ Some level → less ≡ take (length path - 1) path
       → IsClosing old (set new at (Closed number)) all less level number
   one_closed at less some is on is_less =
       let m : ℕ = length path - 1 in
@@ -220,7 +230,8 @@ module _ (old new : List Place) (all path : List ℕ) (level number : ℕ) (stac
           | inl here ↦
               let same : get_or all k 0 ≡ at = ap (λ (i : ℕ). get_or all i 0) here ∙ sym entry in (
                 ap (place_at (set new at (Closed number))) same ∙ get_or-set_same new at (Closed number) Unseen inside,
-                ap (λ (v : ℕ). level_of (place_at old v)) (same ∙ entry) ∙ ap level_of (sym (entry_kept m below)) ∙ ap (λ (v : ℕ). level_of (place_at new v)) (sym entry) ∙ on,
+                ap (λ (v : ℕ). level_of (place_at old v)) (same ∙ entry) ∙ ap level_of (sym (entry_kept m below))
+                    ∙ ap (λ (v : ℕ). level_of (place_at new v)) (sym entry) ∙ on,
               )
           | inr later ↦
               let before = so_far.gone k (omega (arith, past, short, later)) within in

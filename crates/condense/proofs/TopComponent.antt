@@ -23,7 +23,8 @@ closing level c (Closed b) = inr (λ is. (cc), refl)
 
 module _ (g : Graph) (places new : List Place) (depth count top : ℕ) (path : IsPath g places depth count) (on_top : depth ≡ top + 1)
     (none : (v : ℕ) → place_at places v ≢ Open top) (moved : (x : ℕ) → place_at new x ≡ closed top count (place_at places x)) where
-  ends : (x : ℕ) → ((level_of (place_at places x) ≡ Some top) × (place_at new x ≡ Closed count)) ⊎ ((level_of (place_at places x) ≢ Some top) × (place_at new x ≡ place_at places x))
+  ends : (x : ℕ) → ((level_of (place_at places x) ≡ Some top) × (place_at new x ≡ Closed count))
+      ⊎ ((level_of (place_at places x) ≢ Some top) × (place_at new x ≡ place_at places x))
   ends x = elim (closing top count (place_at places x)) [
     | inl e ↦ inl (e.0, moved x ∙ e.1)
     | inr e ↦ inr (e.0, moved x ∙ e.1)

@@ -24,6 +24,10 @@ Suits places depth Close = Unit {0}
 -- the pass before the step and after it
 abbrev pub Moves : Pass → Step → Pass → Type 0
 Moves old (Enter v) new = (new.places.items ≡ slice_set old.places.items v (Open old.depth)) × (new.depth ≡ old.depth + 1) × (new.count ≡ old.count)
-Moves old (Follow v) new = (top : ℕ) × (old.depth ≡ top + 1) × (new.places.items ≡ slice_set old.places.items v (Followed top)) × (new.depth ≡ old.depth) × (new.count ≡ old.count)
-Moves old (Join level) new = (length new.places.items ≡ length old.places.items) × ((v : ℕ) → place_at new.places.items v ≡ joined level (place_at old.places.items v)) × (new.depth ≡ level + 1) × (new.count ≡ old.count)
-Moves old Close new = (length new.places.items ≡ length old.places.items) × ((v : ℕ) → place_at new.places.items v ≡ closed new.depth old.count (place_at old.places.items v)) × (old.depth ≡ new.depth + 1) × (new.count ≡ old.count + 1)
+Moves old (Follow v) new = (top : ℕ) × (old.depth ≡ top + 1) × (new.places.items ≡ slice_set old.places.items v (Followed top))
+    × (new.depth ≡ old.depth) × (new.count ≡ old.count)
+Moves old (Join level) new = (length new.places.items ≡ length old.places.items)
+    × ((v : ℕ) → place_at new.places.items v ≡ joined level (place_at old.places.items v)) × (new.depth ≡ level + 1) × (new.count ≡ old.count)
+Moves old Close new = (length new.places.items ≡ length old.places.items)
+    × ((v : ℕ) → place_at new.places.items v ≡ closed new.depth old.count (place_at old.places.items v)) × (old.depth ≡ new.depth + 1)
+    × (new.count ≡ old.count + 1)

@@ -22,6 +22,7 @@ LeadsToTop g places depth u = (at : ℕ) × (top : ℕ) × (depth ≡ top + 1) �
 -- the step is correct where the path has this many groups
 abbrev pub IsStep : Graph → List Place → ℕ → Step → Type 0
 IsStep g places depth (Enter v) = (v < length g.vertices) × (place_at places v ≡ Unseen) × ((depth ≡ 0) ⊎ LeadsToTop g places depth v)
-IsStep g places depth (Follow v) = (top : ℕ) × (depth ≡ top + 1) × (v < length g.vertices) × (place_at places v ≡ Open top) × SettledBelow g places top v (length g.vertices)
+IsStep g places depth (Follow v) = (top : ℕ) × (depth ≡ top + 1) × (v < length g.vertices) × (place_at places v ≡ Open top)
+    × SettledBelow g places top v (length g.vertices)
 IsStep g places depth (Join level) = (u : ℕ) × (level + 1 ≢ depth) × (level_of (place_at places u) ≡ Some level) × LeadsToTop g places depth u
 IsStep g places depth Close = (top : ℕ) × (depth ≡ top + 1) × ((v : ℕ) → place_at places v ≢ Open top)

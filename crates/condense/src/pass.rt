@@ -114,7 +114,8 @@ fn close(places: &mut [Place], path: &mut Vec<u32>, level: u32, number: u32)
 /// The last vertex of the path, if it is at this level.
 fn top_vertex(places: &[Place], path: &[u32], level: u32) -> Option<u32>
     requires { (k : ℕ) → k < length path.now → slice_index path.now k < length places.now }
-    ensures some { IfSome result (λ at. (0 < length path.now) × (at ≡ slice_index path.now (length path.now - 1)) × (level_of (place_at places.now at) ≡ Some level)) }
+    ensures some { IfSome result
+        (λ at. (0 < length path.now) × (at ≡ slice_index path.now (length path.now - 1)) × (level_of (place_at places.now at) ≡ Some level)) }
     ensures none { IfNone result (0 < length path.now → level_of (place_at places.now (slice_index path.now (length path.now - 1))) ≢ Some level) }
 {
     let count = path.len();

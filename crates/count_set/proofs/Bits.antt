@@ -58,7 +58,8 @@ is_among-members_of_above word r large = rw (is_among-members_below word 32 r, l
 length-members_below : (word k : ℕ) → length (members_below word k) ≡ count_ones (word % 2 ^ k)
 length-members_below word zero = rw (mod-one word) (sym none_set)
 length-members_below word (suc k) =
-    let parts : (bit : ℕ) → count_ones (bit * 2 ^ k + word % 2 ^ k) ≡ count_ones bit + count_ones (word % 2 ^ k) = λ bit. ones_cat k bit (word % 2 ^ k) (mod-lt word (pow_pos k)) in
+    let parts : (bit : ℕ) → count_ones (bit * 2 ^ k + word % 2 ^ k) ≡ count_ones bit + count_ones (word % 2 ^ k) =
+    λ bit. ones_cat k bit (word % 2 ^ k) (mod-lt word (pow_pos k)) in
     let rest = length-members_below word k in
     elim (cases_Bool (has_bit word k)) [
       | inl one ↦ rw (one, low_bits word k, bit_when word k one, parts 1, one_set) (simp length-append (omega (arith, rest)))
@@ -69,7 +70,8 @@ length-members_below word (suc k) =
 below-members_below : (word k : ℕ) → All (λ r. r < k) (members_below word k)
 below-members_below word zero = All-nil (λ (r : ℕ). r < 0)
 below-members_below word (suc k) =
-    let before : All (λ r. r < suc k) (members_below word k) = All-weaker (λ (r : ℕ). r < k) (λ r. r < suc k) (λ r less. omega arith) _ (below-members_below word k) in
+    let before : All (λ r. r < suc k) (members_below word k) =
+    All-weaker (λ (r : ℕ). r < k) (λ r. r < suc k) (λ r less. omega arith) _ (below-members_below word k) in
     elim (cases_Bool (has_bit word k)) [
       | inl one ↦ rw one (All-append (λ (r : ℕ). r < suc k) _ _ before (All-cons (λ (r : ℕ). r < suc k) k [] (omega arith) (All-nil (λ (r : ℕ). r < suc k))))
       | inr none ↦ rw none (All-append (λ (r : ℕ). r < suc k) _ _ before (All-nil (λ (r : ℕ). r < suc k)))
@@ -104,10 +106,15 @@ has_bit-and a b r =
       | inr none ↦ rw (none, bit_unless a r none) (ne_eqb _ 1 (λ one. omega arith))
     ])
 
-filter-members_below : (word other k : ℕ) (p : ℕ → Bool) → ((r : ℕ) → r < k → p r ≡ has_bit other r) → filter p (members_below word k) ≡ members_below (bit_and word other) k
+filter-members_below : (word other k : ℕ) (p : ℕ → Bool) → ((r : ℕ) → r < k → p r ≡ has_bit other r)
+    → filter p (members_below word k) ≡ members_below (bit_and word other) k
 filter-members_below word other zero p same = refl
 filter-members_below word other (suc k) p same =
-    rw (filter-append p (members_below word k) (cond (has_bit word k) (k ∷ []) []), filter-members_below word other k p (λ r less. same r (omega arith)), has_bit-and word other k)
+    rw (
+      filter-append p (members_below word k) (cond (has_bit word k) (k ∷ []) []),
+      filter-members_below word other k p (λ r less. same r (omega arith)),
+      has_bit-and word other k,
+    )
     (elim (cases_Bool (has_bit word k)) [
       | inl one ↦ rw (one, same k (omega arith)) refl
       | inr none ↦ rw none refl
@@ -138,7 +145,8 @@ with_replica-below r k (x ∷ xs) less =
       ]
     ]
 
-with_replica-members_below : (word other r k : ℕ) → r < k → has_bit other r ≡ true → ((q : ℕ) → (q ≡ r → ⊥) → has_bit other q ≡ has_bit word q) → members_below other k ≡ with_replica r (members_below word k)
+with_replica-members_below : (word other r k : ℕ) → r < k → has_bit other r ≡ true
+    → ((q : ℕ) → (q ≡ r → ⊥) → has_bit other q ≡ has_bit word q) → members_below other k ≡ with_replica r (members_below word k)
 with_replica-members_below word other r zero less here others = absurd (omega arith)
 with_replica-members_below word other r (suc k) less here others =
     elim (cases_eq r k) [

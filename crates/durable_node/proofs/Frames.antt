@@ -23,7 +23,14 @@ framed_long digest body =
     let size = to_be_bytes w32 (length body) in
     let check = check_of (digest ++ size) in
     let last = take 8 (next_digest digest body) in
-    omega (arith, length-append ((size ++ check) ++ body) last, length-append (size ++ check) body, length-append size check, check_long (digest ++ size), last_long digest body)
+    omega (
+      arith,
+      length-append ((size ++ check) ++ body) last,
+      length-append (size ++ check) body,
+      length-append size check,
+      check_long (digest ++ size),
+      last_long digest body,
+    )
 
 -- ---- from the record to its parts
 
@@ -35,7 +42,8 @@ pub record IsFramed (digest rest body : List ℕ) : Type 0 where
   pub has_body : HasBody digest rest
 
 parts_of : (digest body more : List ℕ) → length body < 2 ^ 32
-    → IsFramed digest (to_be_bytes w32 (length body) ++ (check_of (digest ++ to_be_bytes w32 (length body)) ++ (body ++ (take 8 (next_digest digest body) ++ more)))) body
+    → IsFramed digest
+    (to_be_bytes w32 (length body) ++ (check_of (digest ++ to_be_bytes w32 (length body)) ++ (body ++ (take 8 (next_digest digest body) ++ more)))) body
 parts_of digest body more small =
     let size = to_be_bytes w32 (length body) in
     let check = check_of (digest ++ size) in
@@ -45,7 +53,8 @@ parts_of digest body more small =
     let rest : drop 8 (check ++ after) ≡ after = drop_at check after 8 (check_long (digest ++ size)) in
     let back : take (from_be_bytes w32 size) (drop 8 (check ++ after)) ≡ body = rw (number, rest) (take_at body (last_check ++ more) (length body) refl) in
     let last : take 8 (drop (from_be_bytes w32 size) (drop 8 (check ++ after))) ≡ last_check =
-    rw (number, rest) (ap (λ (t : List ℕ). take 8 t) (drop_at body (last_check ++ more) (length body) refl) ∙ take_at last_check more 8 (last_long digest body)) in
+    rw (number, rest)
+    (ap (λ (t : List ℕ). take 8 t) (drop_at body (last_check ++ more) (length body) refl) ∙ take_at last_check more 8 (last_long digest body)) in
     record {
       size = number;
       has_size = take_at check after 8 (check_long (digest ++ size));
@@ -65,7 +74,8 @@ framed_prefix digest body more small =
 
 pub framed_in : (digest rest body : List ℕ) → length body < 2 ^ 32 → take (size_at rest) rest ≡ framed digest body → IsFramed digest rest body
 framed_in digest rest body small is =
-    let whole : rest ≡ framed digest body ++ drop (size_at rest) rest = sym (take-append-drop (size_at rest) rest) ∙ ap (λ (t : List ℕ). t ++ drop (size_at rest) rest) is in
+    let whole : rest ≡ framed digest body ++ drop (size_at rest) rest =
+    sym (take-append-drop (size_at rest) rest) ∙ ap (λ (t : List ℕ). t ++ drop (size_at rest) rest) is in
     subst (λ (r : List ℕ). IsFramed digest r body) (sym whole) (framed_prefix digest body (drop (size_at rest) rest) small)
 
 pub fits_in : (digest rest body : List ℕ) → length body < 2 ^ 32 → take (size_at rest) rest ≡ framed digest body → size_at rest ≤ length rest
@@ -79,7 +89,8 @@ glued : (digest size check body last number end : List ℕ) → number ≡ size 
     → (size ++ check) ++ (body ++ last) ≡ number ++ check_of (digest ++ number) ++ body ++ end
 glued digest size check body last number end is c l = rw (is, c, l) (sym (append_assoc (size ++ check_of (digest ++ size)) body end))
 
-pub framed_back : (digest rest : List ℕ) → to_be_bytes w32 (body_size rest) ≡ take 4 rest → size_at rest ≤ length rest → HasSize digest rest → HasBody digest rest
+pub framed_back : (digest rest : List ℕ) → to_be_bytes w32 (body_size rest) ≡ take 4 rest → size_at rest ≤ length rest
+    → HasSize digest rest → HasBody digest rest
     → take (size_at rest) rest ≡ framed digest (body_at rest)
 unfolding framed
 framed_back digest rest number whole has_size has_body =
@@ -88,8 +99,10 @@ framed_back digest rest number whole has_size has_body =
     let len : length (body_at rest) ≡ n = omega (arith, whole, length-take n (drop 12 rest), length-drop 12 rest) in
     let head : take 12 rest ≡ take 4 rest ++ take 8 (drop 4 rest) = take-add 4 8 rest in
     let tail : take (n + 8) (drop 12 rest) ≡ body_at rest ++ take 8 (drop n (drop 12 rest)) = take-add n 8 (drop 12 rest) in
-    ap (λ (k : ℕ). take k rest) size ∙ take-add 12 (n + 8) rest ∙ ap (λ (t : List ℕ). t ++ take (n + 8) (drop 12 rest)) head ∙ ap (λ (t : List ℕ). (take 4 rest ++ take 8 (drop 4 rest)) ++ t) tail
-    ∙ glued digest (take 4 rest) (take 8 (drop 4 rest)) (body_at rest) (take 8 (drop n (drop 12 rest))) (to_be_bytes w32 (length (body_at rest))) (take 8 (next_digest digest (body_at rest)))
+    ap (λ (k : ℕ). take k rest) size ∙ take-add 12 (n + 8) rest ∙ ap (λ (t : List ℕ). t ++ take (n + 8) (drop 12 rest)) head
+    ∙ ap (λ (t : List ℕ). (take 4 rest ++ take 8 (drop 4 rest)) ++ t) tail
+    ∙ glued digest (take 4 rest) (take 8 (drop 4 rest)) (body_at rest) (take 8 (drop n (drop 12 rest)))
+    (to_be_bytes w32 (length (body_at rest))) (take 8 (next_digest digest (body_at rest)))
     (ap (λ (k : ℕ). to_be_bytes w32 k) len ∙ number) has_size has_body
 
 -- ---- bytes that are not torn
@@ -117,7 +130,8 @@ head_same r lost long = (
 )
 
 -- bytes that are not torn start with a record if they do so with more bytes after them
-pub framed_alone : (digest r lost body more : List ℕ) → length body < 2 ^ 32 → r ++ lost ≡ framed digest body ++ more → (IsCut digest r → ⊥) → take (size_at r) r ≡ framed digest body
+pub framed_alone : (digest r lost body more : List ℕ) → length body < 2 ^ 32 → r ++ lost ≡ framed digest body ++ more → (IsCut digest r → ⊥)
+    → take (size_at r) r ≡ framed digest body
 framed_alone digest r lost body more small same whole =
     let head = head_same r lost (long_enough digest r whole) in
     let all = subst (λ (t : List ℕ). IsFramed digest t body) (sym same) (framed_prefix digest body more small) in

@@ -25,4 +25,5 @@ pub read_on : (all log before after : List ℕ) (k : ℕ) → IsRead all log →
 read_on all log before after k e copies =
     let rest = drop (length log) all in
     read_as all (log ++ take k after) (drop k rest)
-    (e ∙ ap (λ (m : List ℕ). log ++ m) (sym (take-append-drop k rest)) ∙ sym (append_assoc log (take k rest) (drop k rest)) ∙ ap (λ (p : List ℕ). (log ++ p) ++ drop k rest) (sym copies.given.1))
+    (e ∙ ap (λ (m : List ℕ). log ++ m) (sym (take-append-drop k rest)) ∙ sym (append_assoc log (take k rest) (drop k rest))
+    ∙ ap (λ (p : List ℕ). (log ++ p) ++ drop k rest) (sym copies.given.1))

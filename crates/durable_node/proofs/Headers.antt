@@ -65,8 +65,10 @@ numbers_same (x ∷ xs) (y ∷ ys) fx fy len same =
 setting_in : List ℕ → Parameters
 setting_in numbers = record { n = get_or numbers 0 0; f = get_or numbers 1 0; p = get_or numbers 2 0; q = get_or numbers 3 0 }
 
-owner_same : (s t : Parameters) (views later me other height grown : ℕ) (keys more : List ℕ) → FitsHeader s views me height keys → FitsHeader t later other grown more
-    → owner_bytes s views me height keys ≡ owner_bytes t later other grown more → (numbers_of s views me height ≡ numbers_of t later other grown) × (keys ≡ more)
+owner_same : (s t : Parameters) (views later me other height grown : ℕ) (keys more : List ℕ) → FitsHeader s views me height keys
+    → FitsHeader t later other grown more
+    → owner_bytes s views me height keys ≡ owner_bytes t later other grown more
+    → (numbers_of s views me height ≡ numbers_of t later other grown) × (keys ≡ more)
 unfolding owner_bytes
 owner_same s t views later me other height grown keys more fits also same =
     let a = numbers_of s views me height in
@@ -75,7 +77,8 @@ owner_same s t views later me other height grown keys more fits also same =
     let parts = cut (flat_map (to_be_bytes w32) a) (flat_map (to_be_bytes w32) b) keys more refl following.1 in
     (numbers_same a b fits.numbers also.numbers refl parts.0, parts.1)
 
-pub headers_differ : (s t : Parameters) (views later me other height grown : ℕ) (keys more : List ℕ) → FitsHeader s views me height keys → FitsHeader t later other grown more
+pub headers_differ : (s t : Parameters) (views later me other height grown : ℕ) (keys more : List ℕ) → FitsHeader s views me height keys
+    → FitsHeader t later other grown more
     → header_of s views me height keys ≡ header_of t later other grown more → (s ≡ t) × (views ≡ later) × (me ≡ other) × (height ≡ grown) × (keys ≡ more)
 unfolding header_of setting_in
 headers_differ s t views later me other height grown keys more fits also same =
@@ -83,8 +86,13 @@ headers_differ s t views later me other height grown keys more fits also same =
     let b = owner_bytes t later other grown more in
     let len : length a ≡ length b = length_owner s views me height keys fits.size ∙ sym (length_owner t later other grown more also.size) in
     let owners = cut a b (check_of a) (check_of b) len same in
-    let parts = owner_same s t views later me other height grown keys more fits also owners.0 in
-    (ap setting_in parts.0, ap (λ (ns : List ℕ). get_or ns 4 0) parts.0, ap (λ (ns : List ℕ). get_or ns 5 0) parts.0, ap (λ (ns : List ℕ). get_or ns 6 0) parts.0, parts.1)
+    let parts = owner_same s t views later me other height grown keys more fits also owners.0 in (
+      ap setting_in parts.0,
+      ap (λ (ns : List ℕ). get_or ns 4 0) parts.0,
+      ap (λ (ns : List ℕ). get_or ns 5 0) parts.0,
+      ap (λ (ns : List ℕ). get_or ns 6 0) parts.0,
+      parts.1,
+    )
 
 -- ---- logs with headers
 
@@ -92,14 +100,16 @@ pub whole_log : (header log : List ℕ) → HasHeader header log → log ≡ hea
 whole_log header log has = sym (take-append-drop 76 log) ∙ ap (λ (t : List ℕ). t ++ drop 76 log) has
 
 pub long_log : (header log : List ℕ) → length header ≡ 76 → HasHeader header log → 76 ≤ length log
-long_log header log sized has = (let len : length (take 76 log) ≡ length header = ap (λ (t : List ℕ). length t) has in omega (arith, len, sized, length-take 76 log))
+long_log header log sized has =
+    (let len : length (take 76 log) ≡ length header = ap (λ (t : List ℕ). length t) has in omega (arith, len, sized, length-take 76 log))
 
 mark_of : (s : Parameters) (views me height : ℕ) (keys rest : List ℕ) → take 8 (owner_bytes s views me height keys ++ rest) ≡ codes "THEMISL2"
 unfolding owner_bytes
 mark_of s views me height keys rest = refl
 
 -- a log with some header has an owner
-owned_log : (s : Parameters) (views me height : ℕ) (keys log : List ℕ) → length keys ≡ 32 → 76 ≤ length log → log ≡ header_of s views me height keys ++ drop 76 log → HasOwner log
+owned_log : (s : Parameters) (views me height : ℕ) (keys log : List ℕ) → length keys ≡ 32 → 76 ≤ length log
+    → log ≡ header_of s views me height keys ++ drop 76 log → HasOwner log
 unfolding header_of
 owned_log s views me height keys log long size is =
     let owner = owner_bytes s views me height keys in
@@ -114,11 +124,16 @@ owned_log s views me height keys log long size is =
     }
 
 pub has_owner : (s : Parameters) (views me height : ℕ) (keys log : List ℕ) → length keys ≡ 32 → HasHeader (header_of s views me height keys) log → HasOwner log
-has_owner s views me height keys log long has = (let header = header_of s views me height keys in owned_log s views me height keys log long (long_log header log (length_header s views me height keys long) has) (whole_log header log has))
+has_owner s views me height keys log long has =
+    (let header = header_of s views me height keys in owned_log s views me height keys log long
+    (long_log header log (length_header s views me height keys long) has) (whole_log header log has))
 
-pub one_owner : (s t : Parameters) (views later me other height grown : ℕ) (keys more log : List ℕ) → FitsHeader s views me height keys → FitsHeader t later other grown more
-    → HasHeader (header_of s views me height keys) log → IsOwn (header_of t later other grown more) log → (s ≡ t) × (views ≡ later) × (me ≡ other) × (height ≡ grown) × (keys ≡ more)
-one_owner s t views later me other height grown keys more log fits also has (inl own) = headers_differ s t views later me other height grown keys more fits also (sym has ∙ own)
+pub one_owner : (s t : Parameters) (views later me other height grown : ℕ) (keys more log : List ℕ) → FitsHeader s views me height keys
+    → FitsHeader t later other grown more
+    → HasHeader (header_of s views me height keys) log → IsOwn (header_of t later other grown more) log
+    → (s ≡ t) × (views ≡ later) × (me ≡ other) × (height ≡ grown) × (keys ≡ more)
+one_owner s t views later me other height grown keys more log fits also has (inl own) =
+    headers_differ s t views later me other height grown keys more fits also (sym has ∙ own)
 one_owner s t views later me other height grown keys more log fits also has (inr torn) =
     absurd (omega (arith, torn.0, long_log (header_of s views me height keys) log (length_header s views me height keys fits.size) has))
 
@@ -133,9 +148,11 @@ unfolding numbers_in
 numbers_back zero [] fits len = refl
 numbers_back zero (b ∷ bytes) fits len = absurd (omega (arith, len))
 numbers_back (suc n) bytes fits len =
-    let first : to_be_bytes w32 (from_be_bytes w32 (take 4 bytes)) ≡ take 4 bytes = wide32.back (take 4 bytes) (omega (arith, len, length-take 4 bytes)) (IsBytes-take 4 bytes fits) in
+    let first : to_be_bytes w32 (from_be_bytes w32 (take 4 bytes)) ≡ take 4 bytes =
+    wide32.back (take 4 bytes) (omega (arith, len, length-take 4 bytes)) (IsBytes-take 4 bytes fits) in
     let rest = numbers_back n (drop 4 bytes) (IsBytes-drop 4 bytes fits) (omega (arith, len, length-drop 4 bytes)) in
-    ap (λ (t : List ℕ). t ++ flat_map (to_be_bytes w32) (numbers_in n (drop 4 bytes))) first ∙ ap (λ (t : List ℕ). take 4 bytes ++ t) rest ∙ take-append-drop 4 bytes
+    ap (λ (t : List ℕ). t ++ flat_map (to_be_bytes w32) (numbers_in n (drop 4 bytes))) first ∙ ap (λ (t : List ℕ). take 4 bytes ++ t) rest
+    ∙ take-append-drop 4 bytes
 
 numbers_fit : (n : ℕ) (bytes : List ℕ) → IsBytes bytes → AllByRecursion (λ number. number < 2 ^ 32) (numbers_in n bytes)
 unfolding numbers_in
@@ -167,16 +184,20 @@ headed log fits size mark =
     let middle = take 28 (drop 8 log) in
     let back : flat_map (to_be_bytes w32) (seven log) ≡ middle =
     numbers_back 7 middle (IsBytes-take 28 (drop 8 log) (IsBytes-drop 8 log fits)) (omega (arith, size, length-take 28 (drop 8 log), length-drop 8 log)) in
-    let numbers : flat_map (to_be_bytes w32) (numbers_of (setting_in (seven log)) (get_or (seven log) 4 0) (get_or (seven log) 5 0) (get_or (seven log) 6 0)) ≡ middle =
+    let numbers : flat_map (to_be_bytes w32)
+    (numbers_of (setting_in (seven log)) (get_or (seven log) 4 0) (get_or (seven log) 5 0) (get_or (seven log) 6 0)) ≡ middle =
     ap (λ (ns : List ℕ). flat_map (to_be_bytes w32) ns) (sym (seven_are log)) ∙ back in
     two_parts 8 60 log ∙ ap (λ (t : List ℕ). t ++ take 60 (drop 8 log)) mark
     ∙ ap (λ (t : List ℕ). codes "THEMISL2" ++ t) (two_parts 28 32 (drop 8 log)
     ∙ ap (λ (t : List ℕ). middle ++ take 32 t) (drop-drop 28 8 log) ∙ ap (λ (t : List ℕ). t ++ take 32 (drop 36 log)) (sym numbers))
 
-header_fits : (log : List ℕ) → IsBytes log → AllByRecursion (λ number. number < 2 ^ 32) (numbers_of (setting_in (seven log)) (get_or (seven log) 4 0) (get_or (seven log) 5 0) (get_or (seven log) 6 0))
+header_fits : (log : List ℕ) → IsBytes log
+    → AllByRecursion (λ number. number < 2 ^ 32)
+    (numbers_of (setting_in (seven log)) (get_or (seven log) 4 0) (get_or (seven log) 5 0) (get_or (seven log) 6 0))
 unfolding seven
 header_fits log fits =
-    subst (λ (ns : List ℕ). AllByRecursion (λ number. number < 2 ^ 32) ns) (seven_are log) (numbers_fit 7 (take 28 (drop 8 log)) (IsBytes-take 28 (drop 8 log) (IsBytes-drop 8 log fits)))
+    subst (λ (ns : List ℕ). AllByRecursion (λ number. number < 2 ^ 32) ns) (seven_are log)
+    (numbers_fit 7 (take 28 (drop 8 log)) (IsBytes-take 28 (drop 8 log) (IsBytes-drop 8 log fits)))
 
 pub fits_of : (bytes : List ℕ) → All (λ b. b < 256) bytes → IsBytes bytes
 fits_of bytes each = λ i. elim (cases_lt i (length bytes)) [ inl lt ↦ each i 0 lt | inr le ↦ rw (get_or_past bytes i 0 le) (omega arith) ]

@@ -12,7 +12,8 @@ use Rattle.durable_node.proofs.Ends.{both, cut_stuck, meet}
 use Rattle.durable_node.proofs.Headers.{long_log}
 use Rattle.durable_node.proofs.Logs.{records_append}
 
-pub held_same : (header old new : List ℕ) (durable_size now : ℕ) → length header ≡ 76 → new ≡ old → now ≡ durable_size → IsHeldBack header old new durable_size now
+pub held_same : (header old new : List ℕ) (durable_size now : ℕ) → length header ≡ 76 → new ≡ old → now ≡ durable_size
+    → IsHeldBack header old new durable_size now
 held_same header old new durable_size now sized bytes same = record {
   records = λ has. record {
     size = length old;
@@ -29,16 +30,19 @@ held_same header old new durable_size now sized bytes same = record {
 }
 
 -- no whole records reach beyond the longest prefix of them
-reaches : (digest old : List ℕ) (events others : List Event) (end other : ℕ) → IsWholePrefix digest old events end → BeginsWith digest old others other → other ≤ end
+reaches : (digest old : List ℕ) (events others : List Event) (end other : ℕ) → IsWholePrefix digest old events end
+    → BeginsWith digest old others other → other ≤ end
 reaches digest old events others end other f g =
-    let more = meet digest events others (drop end old) (drop other old) f.each g.each (cut_stuck _ _ f.cut) (both digest old events others end other f.prefix g.prefix) in
+    let more = meet digest events others (drop end old) (drop other old) f.each g.each (cut_stuck _ _ f.cut)
+    (both digest old events others end other f.prefix g.prefix) in
     let rest = records_of (digest_after digest others) more.more in
     let log : length (records_of digest events) ≡ length (records_of digest others ++ rest) =
     ap (λ (es : List Event). length (records_of digest es)) more.events ∙ ap (λ (t : List ℕ). length t) (records_append digest others more.more) in
     omega (arith, f.size, g.size, log, length-append (records_of digest others) rest)
 
 -- a keeper was to be begun after the whole records
-pub held_after : (header old new : List ℕ) (durable_size now : ℕ) (events : List Event) (end : ℕ) → IsOwn header old → 76 ≤ length old → IsWholePrefix (header_digest header) (records_in old) events end → Stays (76 + end) old new
+pub held_after : (header old new : List ℕ) (durable_size now : ℕ) (events : List Event) (end : ℕ) → IsOwn header old → 76 ≤ length old
+    → IsWholePrefix (header_digest header) (records_in old) events end → Stays (76 + end) old new
     → min (76 + end) durable_size ≤ now → IsHeldBack header old new durable_size now
 held_after header old new durable_size now events end own long f stays least = record {
   records = λ has. record {
@@ -53,7 +57,8 @@ held_after header old new durable_size now events end own long f stays least = r
 }
 
 -- a header was to be written
-pub held_torn : (header old new : List ℕ) (durable_size now : ℕ) → length header ≡ 76 → IsOwn header old → length old < 76 → new ≡ take (length new) header → IsHeldBack header old new durable_size now
+pub held_torn : (header old new : List ℕ) (durable_size now : ℕ) → length header ≡ 76 → IsOwn header old → length old < 76
+    → new ≡ take (length new) header → IsHeldBack header old new durable_size now
 held_torn header old new durable_size now sized own short torn = record {
   records = λ has. absurd (omega (arith, short, long_log header old sized has));
   torn = λ was. torn;

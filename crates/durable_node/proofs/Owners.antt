@@ -51,7 +51,8 @@ bad_refuses header log kepts.Keep own d = tt
 bad_refuses header log kepts.NoMemory own d = tt
 
 -- where memory ran out
-pub good_own : {X : Type 0} (header log : List ℕ) (r : Result X KeptFault) → IsOwn header log → IfErr r (IsRecordsFault (header_digest header) (records_in log)) → r ≡ Err kepts.NoMemory → IsIntact header log
+pub good_own : {X : Type 0} (header log : List ℕ) (r : Result X KeptFault) → IsOwn header log
+    → IfErr r (IsRecordsFault (header_digest header) (records_in log)) → r ≡ Err kepts.NoMemory → IsIntact header log
 good_own header log (Ok x) own d is = absurd cc
 good_own header log (Err kepts.NoHeader) own d is = absurd d
 good_own header log (Err kepts.OtherLog) own d is = absurd d
@@ -61,7 +62,9 @@ good_own header log (Err kepts.Keep) own d is = absurd d
 good_own header log (Err kepts.NoMemory) own d is = record { own = own; none_bad = λ at bad. d (at - 76) bad.bad }
 
 pub bad_within : (digest log : List ℕ) (at : ℕ) → IsBadAt digest log at → at ≤ length log
-bad_within digest log at bad = (let len : length (take at log) ≡ length (records_of digest bad.events) = ap (λ (t : List ℕ). length t) bad.prefix in omega (arith, len, bad.size, length-take at log))
+bad_within digest log at bad =
+    (let len : length (take at log) ≡ length (records_of digest bad.events) = ap (λ (t : List ℕ). length t) bad.prefix in
+    omega (arith, len, bad.size, length-take at log))
 
 -- ---- openings
 

@@ -44,11 +44,13 @@ spells_as body d e same h = subst (Spells body) (some_is d e same) h
 whole_number : (rest : List ℕ) → IsBytes rest → 4 ≤ length rest → to_be_bytes w32 (from_be_bytes w32 (take 4 rest)) ≡ take 4 rest
 whole_number rest fits long = wide32.back (take 4 rest) (omega (arith, length-take 4 rest)) (IsBytes-take 4 rest fits)
 
-arrived_spelled : (rest : List ℕ) → IsBytes rest → (n : ℕ) → n ≡ from_be_bytes w32 (take 4 rest) → length rest ≡ 4 + 16 * n → Spells (1 ∷ rest) (Arrived (txs_in n (drop 4 rest)))
+arrived_spelled : (rest : List ℕ) → IsBytes rest → (n : ℕ) → n ≡ from_be_bytes w32 (take 4 rest) → length rest ≡ 4 + 16 * n
+    → Spells (1 ∷ rest) (Arrived (txs_in n (drop 4 rest)))
 unfolding body_of Spells
 arrived_spelled rest fits n is len =
     let txs = txs_spelled n (drop 4 rest) (IsBytes-drop 4 rest fits) (omega (arith, len, length-drop 4 rest)) in
-    let count : to_be_bytes w32 (length (txs_in n (drop 4 rest))) ≡ take 4 rest = ap (λ (k : ℕ). to_be_bytes w32 k) (length-txs_in n (drop 4 rest) ∙ is) ∙ whole_number rest fits (omega (arith, len)) in
+    let count : to_be_bytes w32 (length (txs_in n (drop 4 rest))) ≡ take 4 rest =
+    ap (λ (k : ℕ). to_be_bytes w32 k) (length-txs_in n (drop 4 rest) ∙ is) ∙ whole_number rest fits (omega (arith, len)) in
     (ap (λ (t : List ℕ). 1 ∷ t) (joined _ _ _ _ count txs.0 ∙ take-append-drop 4 rest), txs.1)
 
 tick_spelled : (rest : List ℕ) → IsBytes rest → length rest ≡ 4 → Spells (3 ∷ rest) (Tick (from_be_bytes w32 (take 4 rest)))
@@ -74,7 +76,8 @@ spelled_kind kind rest each e h =
     elim (if_some (eqb kind 1) (arrived_in rest) _ e h) [
       | inl one ↦
           elim (if_some (eqb (length rest) (4 + 16 * n)) (Some (Arrived (txs_in n (drop 4 rest)))) None e one.1) [
-            | inl len ↦ subst (λ (k : ℕ). Spells (k ∷ rest) e) (sym (eqb-true kind 1 one.0)) (spells_as (1 ∷ rest) (Arrived (txs_in n (drop 4 rest))) e len.1 (arrived_spelled rest fits n refl (eqb-true _ _ len.0)))
+            | inl len ↦ subst (λ (k : ℕ). Spells (k ∷ rest) e) (sym (eqb-true kind 1 one.0))
+                (spells_as (1 ∷ rest) (Arrived (txs_in n (drop 4 rest))) e len.1 (arrived_spelled rest fits n refl (eqb-true _ _ len.0)))
             | inr not ↦ absurd (let bad = not.1 in cc)
           ]
       | inr others ↦
@@ -84,7 +87,8 @@ spelled_kind kind rest each e h =
                 elim (if_some (eqb kind 3) (tick_in rest) None e more.1) [
                   | inl three ↦
                       elim (if_some (eqb (length rest) 4) (Some (Tick n)) None e three.1) [
-                        | inl len ↦ subst (λ (k : ℕ). Spells (k ∷ rest) e) (sym (eqb-true kind 3 three.0)) (spells_as (3 ∷ rest) (Tick n) e len.1 (tick_spelled rest fits (eqb-true _ _ len.0)))
+                        | inl len ↦ subst (λ (k : ℕ). Spells (k ∷ rest) e) (sym (eqb-true kind 3 three.0))
+                            (spells_as (3 ∷ rest) (Tick n) e len.1 (tick_spelled rest fits (eqb-true _ _ len.0)))
                         | inr not ↦ absurd (let bad = not.1 in cc)
                       ]
                   | inr not ↦ absurd (let bad = not.1 in cc)
@@ -138,13 +142,15 @@ ok_so (Ok x) P Q f h = f x h
 ok_so (Err y) P Q f h = tt
 
 All-take : (n : ℕ) (bytes : List ℕ) → All (λ b. b < 256) bytes → All (λ b. b < 256) (take n bytes)
-All-take n bytes each = λ i d less. rw (get_or-take n bytes i d (omega (arith, less, length-take n bytes))) (each i d (omega (arith, less, length-take n bytes)))
+All-take n bytes each = λ i d less.
+    rw (get_or-take n bytes i d (omega (arith, less, length-take n bytes))) (each i d (omega (arith, less, length-take n bytes)))
 
 All-drop : (n : ℕ) (bytes : List ℕ) → All (λ b. b < 256) bytes → All (λ b. b < 256) (drop n bytes)
 All-drop n bytes each = λ i d less. rw get_or-drop (each (n + i) d (omega (arith, less, length-drop n bytes)))
 
 -- where both checks match and the body reads as an event, the record is its own
-some_next : (digest rest : List ℕ) → All (λ b. b < 256) rest → size_at rest ≤ length rest → HasSize digest rest → HasBody digest rest → (e : Event) → event_in (body_at rest) ≡ Some e
+some_next : (digest rest : List ℕ) → All (λ b. b < 256) rest → size_at rest ≤ length rest → HasSize digest rest → HasBody digest rest
+    → (e : Event) → event_in (body_at rest) ≡ Some e
     → CanBeKept e × (take (size_at rest) rest ≡ record_of digest e)
 some_next digest rest each whole has_size has_body e h =
     let fits = fits_of rest each in
@@ -165,7 +171,8 @@ pub unchecked_next : (digest rest : List ℕ) → (HasSize digest rest × HasBod
 unchecked_next digest rest wrong e can same = let f = framed_in digest rest (body_of e) (small_body e can) same in wrong (f.has_size, f.has_body)
 
 -- what reading the body answers is what stands there
-pub next_is : (digest rest : List ℕ) → All (λ b. b < 256) rest → (IsCut digest rest → ⊥) → HasSize digest rest → HasBody digest rest → (o : Option Event) → o ≡ event_in (body_at rest)
+pub next_is : (digest rest : List ℕ) → All (λ b. b < 256) rest → (IsCut digest rest → ⊥) → HasSize digest rest → HasBody digest rest
+    → (o : Option Event) → o ≡ event_in (body_at rest)
     → IsNext digest rest o
 next_is digest rest each whole has_size has_body (Some e) h = some_next digest rest each (whole_of digest rest whole has_size) has_size has_body e (sym h)
 next_is digest rest each whole has_size has_body None h = none_next digest rest (sym h)

@@ -7,9 +7,11 @@ use Rattle.seq_base.specs.Spelling.{tx_spelling}
 use Rattle.wire_view.specs.Reading.{tx_in, txs_in}
 
 -- one is taken off the front
-pub txs_step : (txs : List Tx) (left : ℕ) (rest : List ℕ) (all : List Tx) → 0 < left → txs ++ txs_in left rest ≡ all → (txs ++ tx_in rest ∷ []) ++ txs_in (left - 1) (drop 16 rest) ≡ all
+pub txs_step : (txs : List Tx) (left : ℕ) (rest : List ℕ) (all : List Tx) → 0 < left → txs ++ txs_in left rest ≡ all
+    → (txs ++ tx_in rest ∷ []) ++ txs_in (left - 1) (drop 16 rest) ≡ all
 txs_step txs zero rest all some e = absurd (omega (arith, some))
-txs_step txs (suc left) rest all some e = let less : suc left - 1 ≡ left = omega arith in rw less (append_assoc txs (tx_in rest ∷ []) (txs_in left (drop 16 rest)) ∙ e)
+txs_step txs (suc left) rest all some e = let less : suc left - 1 ≡ left = omega arith in
+    rw less (append_assoc txs (tx_in rest ∷ []) (txs_in left (drop 16 rest)) ∙ e)
 
 -- each has 16 bytes
 pub txs_size : (txs : List Tx) → length (flat_map tx_spelling txs) ≡ 16 * length txs

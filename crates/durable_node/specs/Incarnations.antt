@@ -77,7 +77,8 @@ AreAfter digest (Some e) log bytes = HasTried digest e log bytes
 -- A node has led this lifetime, from an opening state and over a log with this header. Its answers are those of the turns
 -- on the logged events. Until a turn was refused, it is in the state to which they lead. The header and their records
 -- are durable.
-pub record HasLived (fits : Check) (gives : Gives) (opening : State) (header : List ℕ) (closed : Bool) (now : State) (bytes : List ℕ) (durable_size : ℕ) (lifetime : Lifetime) : Type 0 where
+pub record HasLived (fits : Check) (gives : Gives) (opening : State) (header : List ℕ) (closed : Bool) (now : State) (bytes : List ℕ)
+    (durable_size : ℕ) (lifetime : Lifetime) : Type 0 where
   pub sized : length header ≡ 76
   pub answers : IsLived fits gives opening lifetime
   pub stands : closed ≡ false → (lifetime.tried ≡ None) × (now ≡ state_after fits gives opening (logged lifetime))
@@ -87,5 +88,6 @@ pub record HasLived (fits : Check) (gives : Gives) (opening : State) (header : L
 
 -- the same for a node with its keeper, and its running digest is that of the log until a turn was refused
 abbrev pub Lived : {S K : Type 0} → (K → List ℕ) → (K → ℕ) → Check → Gives → State → List ℕ → Kept S K → Lifetime → Type 0
-Lived bytes durable_size fits gives opening header kept lifetime = HasLived fits gives opening header kept.closed kept.node.state (bytes kept.keeper) (durable_size kept.keeper) lifetime
+Lived bytes durable_size fits gives opening header kept lifetime =
+    HasLived fits gives opening header kept.closed kept.node.state (bytes kept.keeper) (durable_size kept.keeper) lifetime
     × (kept.closed ≡ false → kept.digest ≡ log_digest header (logged lifetime))

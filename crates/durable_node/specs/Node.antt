@@ -23,7 +23,8 @@ pub record Kept (S K : Type 0) : Type 0 where
 
 -- The log was the owner's own. The node is in the state to which its turns on the logged events lead, and the keeper
 -- holds the header and their records, and nothing else. This is the running digest after them.
-pub record IsOpened (fits : Check) (gives : Gives) (s : Parameters) (views me height capacity : ℕ) (keys before after digest : List ℕ) (now : State) : Type 0 where
+pub record IsOpened (fits : Check) (gives : Gives) (s : Parameters) (views me height capacity : ℕ) (keys before after digest : List ℕ)
+    (now : State) : Type 0 where
   pub events : List Event
   pub end : ℕ
   pub own : IsOwn (header_of s views me height keys) before
@@ -38,7 +39,8 @@ pub record IsOpened (fits : Check) (gives : Gives) (s : Parameters) (views me he
 pub record KeepsRecords (header old new : List ℕ) (durable_size now : ℕ) : Type 0 where
   pub size : ℕ
   pub prefix : new ≡ take size old
-  pub whole : (events : List Event) (end : ℕ) → BeginsWith (header_digest header) (records_in old) events end → (76 + end ≤ size) × (min (76 + end) durable_size ≤ now)
+  pub whole : (events : List Event) (end : ℕ) → BeginsWith (header_digest header) (records_in old) events end
+      → (76 + end ≤ size) × (min (76 + end) durable_size ≤ now)
 
 -- What a refused start leaves. A torn header is still torn, or whole. Another owner's log is unchanged.
 pub record IsHeldBack (header old new : List ℕ) (durable_size now : ℕ) : Type 0 where

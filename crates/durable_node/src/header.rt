@@ -145,13 +145,16 @@ pub fn records_in(log: &[u8]) -> &[u8]
 /// header.
 pub fn logs_say_whose_they_are()
     ensures size { (s : Parameters) (views me height : ℕ) (keys : List ℕ) → length keys ≡ 32 → length (header_of s views me height keys) ≡ 76 }
-    ensures differ { (s t : Parameters) (views later me other height grown : ℕ) (keys more : List ℕ) → FitsHeader s views me height keys → FitsHeader t later other grown more
+    ensures differ { (s t : Parameters) (views later me other height grown : ℕ) (keys more : List ℕ) → FitsHeader s views me height keys
+        → FitsHeader t later other grown more
         → header_of s views me height keys ≡ header_of t later other grown more → (s ≡ t) × (views ≡ later) × (me ≡ other) × (height ≡ grown) × (keys ≡ more) }
     // A log with the header of an owner is one that has an owner.
-    ensures owned { (s : Parameters) (views me height : ℕ) (keys log : List ℕ) → length keys ≡ 32 → HasHeader (header_of s views me height keys) log → HasOwner log }
+    ensures owned { (s : Parameters) (views me height : ℕ) (keys log : List ℕ) → length keys ≡ 32
+        → HasHeader (header_of s views me height keys) log → HasOwner log }
     ensures owner { (log : List ℕ) → All (λ b. b < 256) log → HasOwner log → IsHeaded log }
     // No other owner takes it for its own.
-    ensures one { (s t : Parameters) (views later me other height grown : ℕ) (keys more log : List ℕ) → FitsHeader s views me height keys → FitsHeader t later other grown more
+    ensures one { (s t : Parameters) (views later me other height grown : ℕ) (keys more log : List ℕ) → FitsHeader s views me height keys
+        → FitsHeader t later other grown more
         → HasHeader (header_of s views me height keys) log → IsOwn (header_of t later other grown more) log
         → (s ≡ t) × (views ≡ later) × (me ≡ other) × (height ≡ grown) × (keys ≡ more) }
     // Different heights have different numbers.

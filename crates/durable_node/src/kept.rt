@@ -118,11 +118,15 @@ impl<S: Sealer, K: Keeper> DurableNode<S, K> {
         requires fresh { S.made sealer ≡ 0 }
         requires idle { K.begun keeper ≡ false }
         requires countable { K.openings keeper < 2 ^ 64 - 1 }
-        ensures opened { IfOk result (λ kept. IsOpened (C.meaning checker.now) (S.gives sealer) setting views (S.replica sealer) (height_number height) (S.capacity sealer)
+        ensures opened { IfOk result
+            (λ kept. IsOpened (C.meaning checker.now) (S.gives sealer) setting views (S.replica sealer) (height_number height) (S.capacity sealer)
             keys.now (K.bytes keeper) (K.bytes kept.keeper) kept.digest kept.node.state) }
         // Its lifetime starts with the events whose records are whole.
         ensures lived { IfOk result (λ kept. (events : List Event) (end : ℕ)
-            → IsWholePrefix (header_digest (header_of setting views (S.replica sealer) (height_number height) keys.now)) (records_in (K.bytes keeper)) events end → Lived K.bytes K.durable_size (C.meaning checker.now) (S.gives sealer) (opening_state setting views (S.replica sealer) (S.capacity sealer))
+            → IsWholePrefix (header_digest (header_of setting views (S.replica sealer) (height_number height) keys.now))
+            (records_in (K.bytes keeper)) events end
+            → Lived K.bytes K.durable_size (C.meaning checker.now) (S.gives sealer)
+            (opening_state setting views (S.replica sealer) (S.capacity sealer))
             (header_of setting views (S.replica sealer) (height_number height) keys.now) kept (begun_with events)) }
         ensures gives { IfOk result (λ kept. S.gives kept.node.sealer ≡ S.gives sealer) }
         ensures replica { IfOk result (λ kept. S.replica kept.node.sealer ≡ S.replica sealer) }
@@ -134,14 +138,17 @@ impl<S: Sealer, K: Keeper> DurableNode<S, K> {
         // The log of another owner is always refused, and its own never for that reason.
         ensures own { IfErr result (λ e. IsRefusal (header_of setting views (S.replica sealer) (height_number height) keys.now) (K.bytes keeper) e.1) }
         // A log with a corrupt record is always refused, and no other for that reason.
-        ensures good { (at : ℕ) → IsBadAt (header_digest (header_of setting views (S.replica sealer) (height_number height) keys.now)) (records_in (K.bytes keeper)) at → OnOk result ⊥ }
+        ensures good { (at : ℕ) → IsBadAt (header_digest (header_of setting views (S.replica sealer) (height_number height) keys.now))
+            (records_in (K.bytes keeper)) at → OnOk result ⊥ }
         ensures bad { IfErr result (λ e. (at : ℕ) → e.1 ≡ KeptFault.BadLog at
             → IsBadIn (header_of setting views (S.replica sealer) (height_number height) keys.now) (K.bytes keeper) at × (K.bytes e.0 ≡ K.bytes keeper)) }
         ensures cause { IfErr result (λ e. e.1 ≡ KeptFault.Keep → K.faults keeper < K.faults e.0) }
         ensures unclosed { IfErr result (λ e. e.1 ≡ KeptFault.Closed → ⊥) }
-        ensures refused { IfErr result (λ e. IsHeldBack (header_of setting views (S.replica sealer) (height_number height) keys.now) (K.bytes keeper) (K.bytes e.0) (K.durable_size keeper) (K.durable_size e.0)) }
+        ensures refused { IfErr result (λ e. IsHeldBack (header_of setting views (S.replica sealer) (height_number height) keys.now)
+            (K.bytes keeper) (K.bytes e.0) (K.durable_size keeper) (K.durable_size e.0)) }
         ensures idle { IfErr result (λ e. K.begun e.0 ≡ false) }
-        ensures unopened { IfErr result (λ e. IsUnopened (header_of setting views (S.replica sealer) (height_number height) keys.now) (K.bytes keeper) (K.openings keeper) (K.openings e.0)) }
+        ensures unopened { IfErr result (λ e. IsUnopened (header_of setting views (S.replica sealer) (height_number height) keys.now)
+            (K.bytes keeper) (K.openings keeper) (K.openings e.0)) }
         ensures not_fewer { IfErr result (λ e. K.faults keeper ≤ K.faults e.0) }
     {
         let mut keeper = keeper;
@@ -183,10 +190,13 @@ impl<S: Sealer, K: Keeper> DurableNode<S, K> {
         ensures keeps { K.durable_size self.old.keeper ≤ K.durable_size self.new.keeper }
         // If the keeper failed, the node has not acted on the event.
         ensures unkept { result ≡ Err KeptFault.Keep → self.new.node ≡ self.old.node }
-        ensures lived { (opening : State) (header : List ℕ) (lifetime : Lifetime) → Lived K.bytes K.durable_size (C.meaning checker.now) (S.gives self.old.node.sealer) opening header self.old lifetime
-            → IfOk result (λ t. Lived K.bytes K.durable_size (C.meaning checker.now) (S.gives self.old.node.sealer) opening header self.new (answered lifetime event.now t)) }
+        ensures lived { (opening : State) (header : List ℕ) (lifetime : Lifetime)
+            → Lived K.bytes K.durable_size (C.meaning checker.now) (S.gives self.old.node.sealer) opening header self.old lifetime
+            → IfOk result (λ t. Lived K.bytes K.durable_size (C.meaning checker.now) (S.gives self.old.node.sealer) opening header self.new
+            (answered lifetime event.now t)) }
         ensures tried { (fits : Check) (gives : Gives) (opening : State) (header : List ℕ) (lifetime : Lifetime) → self.old.closed ≡ false
-            → Lived K.bytes K.durable_size fits gives opening header self.old lifetime → OnErr result (Lived K.bytes K.durable_size fits gives opening header self.new (tried lifetime event.now)) }
+            → Lived K.bytes K.durable_size fits gives opening header self.old lifetime
+            → OnErr result (Lived K.bytes K.durable_size fits gives opening header self.new (tried lifetime event.now)) }
         ensures openings { K.openings self.new.keeper ≡ K.openings self.old.keeper }
         ensures gives { S.gives self.new.node.sealer ≡ S.gives self.old.node.sealer }
         ensures replica { S.replica self.new.node.sealer ≡ S.replica self.old.node.sealer }
@@ -231,9 +241,11 @@ impl<S: Sealer, K: Keeper> DurableNode<S, K> {
         ensures openings { K.openings result ≡ K.openings self.keeper }
         ensures durable_size { K.durable_size self.keeper ≤ K.durable_size result }
         ensures later { K.faults self.keeper ≤ K.faults result }
-        ensures own { (fits : Check) (gives : Gives) (opening : State) (header : List ℕ) (lifetime : Lifetime) → Lived K.bytes K.durable_size fits gives opening header self lifetime
+        ensures own { (fits : Check) (gives : Gives) (opening : State) (header : List ℕ) (lifetime : Lifetime)
+            → Lived K.bytes K.durable_size fits gives opening header self lifetime
             → HasHeader header (K.bytes result) }
-        ensures left { (fits : Check) (gives : Gives) (opening : State) (header : List ℕ) (lifetime : Lifetime) → Lived K.bytes K.durable_size fits gives opening header self lifetime
+        ensures left { (fits : Check) (gives : Gives) (opening : State) (header : List ℕ) (lifetime : Lifetime)
+            → Lived K.bytes K.durable_size fits gives opening header self lifetime
             → (events : List Event) (end : ℕ) → IsWholePrefix (header_digest header) (records_in (K.bytes result)) events end → IsLeft lifetime events }
     {
         let DurableNode {

@@ -7,10 +7,12 @@ ghost use Rattle.durable_node.specs.Log.{CanBeKept, IsBadAt, IsWholePrefix, IsWr
 /// A log is read back, wherever it ends: the whole records are a prefix of its events, and none of them is corrupt. The
 /// records follow a running digest, that of the log's header.
 pub fn logs_are_read_back()
-    ensures whole { (digest : List ℕ) (events : List Event) → All CanBeKept events → IsWholePrefix digest (records_of digest events) events (length (records_of digest events)) }
+    ensures whole { (digest : List ℕ) (events : List Event) → All CanBeKept events
+        → IsWholePrefix digest (records_of digest events) events (length (records_of digest events)) }
     ensures cut { (digest : List ℕ) (events read : List Event) (log : List ℕ) (end : ℕ) → All CanBeKept events → IsPrefixOf log (records_of digest events)
         → IsWholePrefix digest log read end → IsPrefixOf read events }
-    ensures good { (digest : List ℕ) (events : List Event) (log : List ℕ) (at : ℕ) → All CanBeKept events → IsPrefixOf log (records_of digest events) → IsBadAt digest log at → ⊥ }
+    ensures good { (digest : List ℕ) (events : List Event) (log : List ℕ) (at : ℕ) → All CanBeKept events
+        → IsPrefixOf log (records_of digest events) → IsBadAt digest log at → ⊥ }
     // Bytes have at most one longest prefix of whole records, at most one first corrupt record, and never both.
     ensures one_prefix { (digest log : List ℕ) (a b : List Event) (i j : ℕ) → IsWholePrefix digest log a i → IsWholePrefix digest log b j → (a ≡ b) × (i ≡ j) }
     ensures one_place { (digest log : List ℕ) (i j : ℕ) → IsBadAt digest log i → IsBadAt digest log j → i ≡ j }

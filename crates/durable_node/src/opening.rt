@@ -39,7 +39,8 @@ pub fn opened<S: Sealer, C: Checker, K: Keeper>(
     requires fresh { S.made sealer ≡ 0 }
     requires idle { K.begun keeper.old ≡ false }
     requires countable { K.openings keeper.old < 2 ^ 64 - 1 }
-    ensures opened { IfOk result (λ o. IsOpened (C.meaning checker.now) (S.gives sealer) setting views (S.replica sealer) (height_number height) (S.capacity sealer)
+    ensures opened { IfOk result
+        (λ o. IsOpened (C.meaning checker.now) (S.gives sealer) setting views (S.replica sealer) (height_number height) (S.capacity sealer)
         keys.now (K.bytes keeper.old) (K.bytes keeper.new) o.1 o.0.state) }
     ensures gives { IfOk result (λ o. S.gives o.0.sealer ≡ S.gives sealer) }
     ensures replica { IfOk result (λ o. S.replica o.0.sealer ≡ S.replica sealer) }
@@ -48,13 +49,17 @@ pub fn opened<S: Sealer, C: Checker, K: Keeper>(
     ensures openings { OnOk result (K.openings keeper.new ≡ K.openings keeper.old + 1) }
     ensures begun { OnOk result (K.begun keeper.new ≡ true) }
     ensures idle { OnErr result (K.begun keeper.new ≡ false) }
-    ensures unopened { OnErr result (IsUnopened (header_of setting views (S.replica sealer) (height_number height) keys.now) (K.bytes keeper.old) (K.openings keeper.old) (K.openings keeper.new)) }
+    ensures unopened { OnErr result (IsUnopened (header_of setting views (S.replica sealer) (height_number height) keys.now)
+        (K.bytes keeper.old) (K.openings keeper.old) (K.openings keeper.new)) }
     ensures cause { result ≡ Err KeptFault.Keep → K.faults keeper.old < K.faults keeper.new }
     ensures later { K.faults keeper.old ≤ K.faults keeper.new }
     // The log of another owner is always refused, and its own never for that reason.
     ensures own { IfErr result (IsRefusal (header_of setting views (S.replica sealer) (height_number height) keys.now) (K.bytes keeper.old)) }
-    ensures bad { (at : ℕ) → result ≡ Err (KeptFault.BadLog at) → IsBadIn (header_of setting views (S.replica sealer) (height_number height) keys.now) (K.bytes keeper.old) at × (K.bytes keeper.new ≡ K.bytes keeper.old) }
-    ensures refused { OnErr result (IsHeldBack (header_of setting views (S.replica sealer) (height_number height) keys.now) (K.bytes keeper.old) (K.bytes keeper.new) (K.durable_size keeper.old) (K.durable_size keeper.new)) }
+    ensures bad { (at : ℕ) → result ≡ Err (KeptFault.BadLog at)
+        → IsBadIn (header_of setting views (S.replica sealer) (height_number height) keys.now) (K.bytes keeper.old) at
+        × (K.bytes keeper.new ≡ K.bytes keeper.old) }
+    ensures refused { OnErr result (IsHeldBack (header_of setting views (S.replica sealer) (height_number height) keys.now)
+        (K.bytes keeper.old) (K.bytes keeper.new) (K.durable_size keeper.old) (K.durable_size keeper.new)) }
     ensures unclosed { result ≡ Err KeptFault.Closed → ⊥ }
 {
     let header = header_of(alloc, setting, views, sealer.replica(), height, keys)?;

@@ -67,7 +67,8 @@ impl Keeper for SteadyKeeper {
     fn begin(&mut self, size: u64) -> Result<(), KeepFault>
         requires countable { self.old.openings < 2 ^ 64 - 1 }
         requires within { size ≤ length self.old.bytes }
-        ensures call { IsSteadyCall self.old (record { bytes = take size self.old.bytes; durable_size = size; openings = self.old.openings + 1; begun = true }) result self.new }
+        ensures call { IsSteadyCall self.old
+            (record { bytes = take size self.old.bytes; durable_size = size; openings = self.old.openings + 1; begun = true }) result self.new }
         ensures refused { OnErr result (Stays size self.old.bytes self.new.bytes) }
     {
         self.bytes.truncate(size as usize);

@@ -56,7 +56,8 @@ module _ (numbers : List ℕ) (txs : List Tx) (at : ℕ) (d : Tx) (here : at < l
       get_or-map-range_with_len (numbered (take (at + 1) numbers) (take (at + 1) txs)) 0 count k k e within (omega arith) in
       elim (cases_eq n k) [
         | inl same ↦
-            let before : get_or old n [] ≡ numbered (take at numbers) (take at txs) n = get_or-map-range_with_len (numbered (take at numbers) (take at txs)) 0 count n n [] below (omega arith) in
+            let before : get_or old n [] ≡ numbered (take at numbers) (take at txs) n =
+            get_or-map-range_with_len (numbered (take at numbers) (take at txs)) 0 count n n [] below (omega arith) in
             ap (λ (j : ℕ). get_or (with_one_more old n tx) j e) (sym same)
             ∙ get_or-set_same old n (get_or old n [] ++ tx ∷ []) e (omega (arith, size_old, below))
             ∙ ap (λ (list : List Tx). list ++ tx ∷ []) before
@@ -89,14 +90,16 @@ pub as_many : (lists : List (Vec Tx Global)) (numbers : List ℕ) (count : ℕ) 
 as_many lists numbers count txs are =
     sym (length-map lists (λ (list : Vec Tx Global). list.items)) ∙ ap length are ∙ length-map-range_with_len (numbered numbers txs) 0 count
 
-pub one_empty_more : (lists : List (Vec Tx Global)) (n : ℕ) (list : Vec Tx Global) → list.items ≡ [] → items_of lists ≡ lists_of [] n [] → items_of (lists ++ list ∷ []) ≡ lists_of [] (n + 1) []
+pub one_empty_more : (lists : List (Vec Tx Global)) (n : ℕ) (list : Vec Tx Global) → list.items ≡ [] → items_of lists ≡ lists_of [] n []
+    → items_of (lists ++ list ∷ []) ≡ lists_of [] (n + 1) []
 one_empty_more lists n list none before =
     map-append (λ (one : Vec Tx Global). one.items) lists (list ∷ [])
     ∙ ap (λ (last : List Tx). items_of lists ++ last ∷ []) none
     ∙ ap (λ (ls : List (List Tx)). ls ++ [] ∷ []) before
     ∙ sym (map-range_with_len_more (numbered [] []) 0 n n (omega arith))
 
-pub one_is_put : (lists : List (Vec Tx Global)) (at : ℕ) (old new : Vec Tx Global) (tx : Tx) → at < length lists → old ≡ get_or lists at old → new.items ≡ old.items ++ tx ∷ []
+pub one_is_put : (lists : List (Vec Tx Global)) (at : ℕ) (old new : Vec Tx Global) (tx : Tx) → at < length lists → old ≡ get_or lists at old
+    → new.items ≡ old.items ++ tx ∷ []
     → items_of (set lists at new) ≡ with_one_more (items_of lists) at tx
 one_is_put lists at old new tx inside read is =
     map-set (λ (one : Vec Tx Global). one.items) lists at new

@@ -15,7 +15,8 @@ use Rattle.fair_laws.proofs.OwedEdges.{is_kept, no_later_batch}
 use Rattle.fair_laws.proofs.Lateness.{walk_forward}
 
 -- where a walk leads from u to v, u is not in a later list
-pub not_later : (g : Graph) (batches : List (List Tx)) (u v i j : ℕ) (a b : Tx) → AreBatches g batches → slice_get g.vertices u ≡ Some a → slice_get g.vertices v ≡ Some b
+pub not_later : (g : Graph) (batches : List (List Tx)) (u v i j : ℕ) (a b : Tx) → AreBatches g batches → slice_get g.vertices u ≡ Some a
+    → slice_get g.vertices v ≡ Some b
     → StandsIn batches i a → StandsIn batches j b → Walks (HasEdge g) u v → i ≤ j
 not_later g batches u v i j a b are one other here there walk =
     elim (cases_lt j i) [
@@ -23,7 +24,8 @@ not_later g batches u v i j a b are one other here there walk =
       | inr low ↦ low
     ]
 
-pub fair_in_batches : (s : Parameters) (lists : List (List Tx)) (a b : Tx) (kept : List Tx) (batches : List (List Tx)) → 2 * threshold_of s ≤ solid_of s + 1 → IsOwed s lists a b
+pub fair_in_batches : (s : Parameters) (lists : List (List Tx)) (a b : Tx) (kept : List Tx) (batches : List (List Tx))
+    → 2 * threshold_of s ≤ solid_of s + 1 → IsOwed s lists a b
     → AreKept s lists kept → IsComplete (graph_of s lists kept) → AreBatches (graph_of s lists kept) batches
     → (i j : ℕ) × StandsIn batches i a × StandsIn batches j b × (i ≤ j)
 fair_in_batches s lists a b kept batches half owed are complete batched =

@@ -44,12 +44,15 @@ are_candidates s lists = record {
         (λ held. leb-true (threshold_of s) (listed lists t) (and_parts (is_candidate s lists t) (holds t (listed_in lists)) (sym split ∙ held)).0),
         (λ candidate.
             let low : threshold_of s ≤ listed lists t = candidate in
-            split ∙ and_from (is_candidate s lists t) (holds t (listed_in lists)) (le-leb (threshold_of s) (listed lists t) low) (((are_listed lists).each t).1 (omega arith))),
+            split
+            ∙ and_from (is_candidate s lists t) (holds t (listed_in lists)) (le-leb (threshold_of s) (listed lists t) low)
+            (((are_listed lists).each t).1 (omega arith))),
       );
 }
 
 pub few_candidates : (s : Parameters) (lists : List (List Tx)) → AreFresh lists → length (candidates_of s lists) ≤ 2048
-few_candidates s lists fresh = omega (arith, length-filter (is_candidate s lists) (listed_in lists), count_by-le-length (is_candidate s lists) (listed_in lists), few_listed lists fresh)
+few_candidates s lists fresh =
+    omega (arith, length-filter (is_candidate s lists) (listed_in lists), count_by-le-length (is_candidate s lists) (listed_in lists), few_listed lists fresh)
 
 module _ (s : Parameters) (lists : List (List Tx)) (fresh : AreFresh lists) where
   abbrev txs : List Tx
@@ -99,11 +102,13 @@ module _ (s : Parameters) (lists : List (List Tx)) (fresh : AreFresh lists) wher
       )
 
   -- for any answers that agree with such walks, the wanted ones are all that is kept
-  pub wanted_is_kept : (wanted : List Bool) → ((u : ℕ) → u < length txs → (get_or wanted u false ≡ true) ↔ ((v : ℕ) × (get_or solid v false ≡ true) × Walks (HasEdge g) u v))
+  pub wanted_is_kept : (wanted : List Bool)
+      → ((u : ℕ) → u < length txs → (get_or wanted u false ≡ true) ↔ ((v : ℕ) × (get_or solid v false ≡ true) × Walks (HasEdge g) u v))
       → AreKept s lists (wanted_of wanted txs)
   wanted_is_kept wanted report =
       wanted_are_kept s lists txs wanted (are_candidates s lists) few
-      (λ k t at. (let reported = report k (slice_get_within txs k t at) in ((λ is. walks_are_kept k t at (reported.0 is)), (λ kept. reported.1 (kept_walks k t at kept)))))
+      (λ k t at. (let reported = report k (slice_get_within txs k t at) in
+      ((λ is. walks_are_kept k t at (reported.0 is)), (λ kept. reported.1 (kept_walks k t at kept)))))
 
   abbrev leads : ℕ → ℕ → Bool
   leads u v = get_or solid v false && reaches g u v
@@ -115,7 +120,8 @@ module _ (s : Parameters) (lists : List (List Tx)) (fresh : AreFresh lists) wher
   led_walks u «from» led =
       let some = Any-from_list_any (leads u) (range_with_len 0 (length txs)) led in
       let below : some.0 < length txs = omega (arith, some.2, length-range_with_len 0 (length txs)) in
-      let number : some.1 ≡ some.0 = sym some.3 ∙ get_or-range_with_len 0 (length txs) some.0 some.1 below ∙ (let same : 0 + some.0 ≡ some.0 = omega arith in same) in
+      let number : some.1 ≡ some.0 = sym some.3 ∙ get_or-range_with_len 0 (length txs) some.0 some.1 below
+      ∙ (let same : 0 + some.0 ≡ some.0 = omega arith in same) in
       let parts = and_parts (get_or solid some.1 false) (reaches g u some.1) some.4 in
       (some.1, parts.0, (reaches_show g is_graph u some.1 «from» (omega arith)).0 parts.1)
 
@@ -126,7 +132,8 @@ module _ (s : Parameters) (lists : List (List Tx)) (fresh : AreFresh lists) wher
         | inr past ↦ absurd (false≢true (sym (get_or_past solid led.0 false (omega (arith, length-map txs (is_solid s lists)))) ∙ led.1))
       ] in
       list_any_at (leads u) (range_with_len 0 (length txs)) led.0 0 (omega (arith, length-range_with_len 0 (length txs)))
-      (ap (leads u) (number_at led.0 inside) ∙ and_from (get_or solid led.0 false) (reaches g u led.0) led.1 ((reaches_show g is_graph u led.0 «from» inside).1 led.2))
+      (ap (leads u) (number_at led.0 inside)
+      ∙ and_from (get_or solid led.0 false) (reaches g u led.0) led.1 ((reaches_show g is_graph u led.0 «from» inside).1 led.2))
 
   pub are_kept_of : AreKept s lists (kept_by s lists)
   are_kept_of =
@@ -138,7 +145,8 @@ module _ (s : Parameters) (lists : List (List Tx)) (fresh : AreFresh lists) wher
       ((λ is. led_walks u inside (sym reported ∙ is)), (λ led. reported ∙ walks_lead u inside led)))
 
   -- so they are the computed ones
-  pub wanted_is_computed : (wanted : List Bool) → ((u : ℕ) → u < length txs → (get_or wanted u false ≡ true) ↔ ((v : ℕ) × (get_or solid v false ≡ true) × Walks (HasEdge g) u v))
+  pub wanted_is_computed : (wanted : List Bool)
+      → ((u : ℕ) → u < length txs → (get_or wanted u false ≡ true) ↔ ((v : ℕ) × (get_or solid v false ≡ true) × Walks (HasEdge g) u v))
       → wanted_of wanted txs ≡ kept_by s lists
   wanted_is_computed wanted report = kept_are_one s lists (wanted_of wanted txs) (kept_by s lists) (wanted_is_kept wanted report) are_kept_of
 

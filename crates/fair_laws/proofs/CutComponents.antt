@@ -28,16 +28,19 @@ use Rattle.fair_laws.specs.Kept.{IsSolid, IsCandidate, LeadsOn, IsKept, AreCandi
 abbrev rows_of : Parameters → List (List Tx) → List Tx → List Tx → List (List Edge)
 rows_of s lists froms tos = map (λ u. map (edge_between s lists u) tos) froms
 
-kept_rows : (s : Parameters) (lists : List (List Tx)) (wanted : List Bool) (froms tos : List Tx) → map (wanted_of wanted) (rows_of s lists froms tos) ≡ rows_of s lists froms (wanted_of wanted tos)
+kept_rows : (s : Parameters) (lists : List (List Tx)) (wanted : List Bool) (froms tos : List Tx)
+    → map (wanted_of wanted) (rows_of s lists froms tos) ≡ rows_of s lists froms (wanted_of wanted tos)
 kept_rows s lists wanted [] tos = refl
 kept_rows s lists wanted (x ∷ froms) tos =
     ap (λ (row : List Edge). row ∷ map (wanted_of wanted) (rows_of s lists froms tos)) (sym (map-wanted_of (edge_between s lists x) wanted tos))
     ∙ ap (λ (rows : List (List Edge)). map (edge_between s lists x) (wanted_of wanted tos) ∷ rows) (kept_rows s lists wanted froms tos)
 
-pub kept_graph : (s : Parameters) (lists : List (List Tx)) (wanted : List Bool) (txs : List Tx) → kept_of wanted (graph_of s lists txs) ≡ graph_of s lists (wanted_of wanted txs)
+pub kept_graph : (s : Parameters) (lists : List (List Tx)) (wanted : List Bool) (txs : List Tx)
+    → kept_of wanted (graph_of s lists txs) ≡ graph_of s lists (wanted_of wanted txs)
 kept_graph s lists wanted txs =
     ap (with_rows (wanted_of wanted txs))
-    (ap (map (wanted_of wanted)) (sym (map-wanted_of (λ (u : Tx). map (edge_between s lists u) txs) wanted txs)) ∙ kept_rows s lists wanted (wanted_of wanted txs) txs)
+    (ap (map (wanted_of wanted)) (sym (map-wanted_of (λ (u : Tx). map (edge_between s lists u) txs) wanted txs))
+    ∙ kept_rows s lists wanted (wanted_of wanted txs) txs)
 
 module _ (s : Parameters) (lists : List (List Tx)) (txs : List Tx) (candidates : AreCandidates s lists txs) (few : length txs ≤ 2048) where
   pub graph : IsGraph (graph_of s lists txs)
@@ -58,15 +61,19 @@ module _ (s : Parameters) (lists : List (List Tx)) (txs : List Tx) (candidates :
       }
 
   -- walks between vertices are walks between transactions that are not blank
-  pub walk_up : (u v : ℕ) (a b : Tx) → slice_get txs u ≡ Some a → slice_get txs v ≡ Some b → Walks (HasEdge (graph_of s lists txs)) u v → Walks (LeadsOn s lists) a b
+  pub walk_up : (u v : ℕ) (a b : Tx) → slice_get txs u ≡ Some a → slice_get txs v ≡ Some b → Walks (HasEdge (graph_of s lists txs)) u v
+      → Walks (LeadsOn s lists) a b
   walk_up u v a b one other walk =
-      let up : Walks (LeadsOn s lists) (get_or txs u a) (get_or txs v a) = walk_map (HasEdge (graph_of s lists txs)) (LeadsOn s lists) (λ k. get_or txs k a) (edge_up a) u v walk in
+      let up : Walks (LeadsOn s lists) (get_or txs u a) (get_or txs v a) =
+      walk_map (HasEdge (graph_of s lists txs)) (LeadsOn s lists) (λ k. get_or txs k a) (edge_up a) u v walk in
       subst (λ (x : Tx). Walks (LeadsOn s lists) x b) (get_or_from_slice_get txs u a a one)
       (subst (λ (y : Tx). Walks (LeadsOn s lists) (get_or txs u a) y) (get_or_from_slice_get txs v b a other) up)
 
-  pub walk_down : (u v : ℕ) (a b : Tx) → slice_get txs u ≡ Some a → slice_get txs v ≡ Some b → Walks (LeadsOn s lists) a b → Walks (HasEdge (graph_of s lists txs)) u v
+  pub walk_down : (u v : ℕ) (a b : Tx) → slice_get txs u ≡ Some a → slice_get txs v ≡ Some b → Walks (LeadsOn s lists) a b
+      → Walks (HasEdge (graph_of s lists txs)) u v
   walk_down u v a b one other walk =
-      let there = walk_keeps (LeadsOn s lists) (λ x. (w : ℕ) × (slice_get txs w ≡ Some x) × Walks (HasEdge (graph_of s lists txs)) u w) step a b walk (u, one, walk_same (HasEdge (graph_of s lists txs)) u u refl) in
+      let there = walk_keeps (LeadsOn s lists) (λ x. (w : ℕ) × (slice_get txs w ≡ Some x) × Walks (HasEdge (graph_of s lists txs)) u w) step
+      a b walk (u, one, walk_same (HasEdge (graph_of s lists txs)) u u refl) in
       subst (λ (w : ℕ). Walks (HasEdge (graph_of s lists txs)) u w) (one_place txs there.0 v b candidates.ascending there.1 other) there.2
     where
       step : (x y : Tx) → (w : ℕ) × (slice_get txs w ≡ Some x) × Walks (HasEdge (graph_of s lists txs)) u w → LeadsOn s lists x y
@@ -77,7 +84,8 @@ module _ (s : Parameters) (lists : List (List Tx)) (txs : List Tx) (candidates :
           (to.0, to.1, walk_join (HasEdge (graph_of s lists txs)) u here.0 to.0 here.2 (walk_edge (HasEdge (graph_of s lists txs)) here.0 to.0 edge))
 
   -- for any numbers that never decrease along edges and are equal exactly within components
-  module _ (valid_low : threshold_of s ≤ solid_of s) (half : 2 * threshold_of s ≤ solid_of s + 1) (number : ℕ → ℕ) (numbering : IsNumbering (graph_of s lists txs) number) where
+  module _ (valid_low : threshold_of s ≤ solid_of s) (half : 2 * threshold_of s ≤ solid_of s + 1) (number : ℕ → ℕ)
+      (numbering : IsNumbering (graph_of s lists txs) number) where
     kept_stands_low : (u : ℕ) (a : Tx) → slice_get txs u ≡ Some a → IsKept s lists a
         → (v : ℕ) × (b : Tx) × (slice_get txs v ≡ Some b) × IsSolid s lists b × (number u ≤ number v)
     kept_stands_low u a at kept =
@@ -95,7 +103,9 @@ module _ (s : Parameters) (lists : List (List Tx)) (txs : List Tx) (candidates :
     low_is_kept : (u v : ℕ) (a b : Tx) → slice_get txs u ≡ Some a → slice_get txs v ≡ Some b → IsSolid s lists b → number u ≤ number v → IsKept s lists a
     low_is_kept u v a b one other solid low =
         elim (cases_Bool (tx_eq a b)) [
-          | inl is ↦ (let same = (tx_eq_decides a b).0 is in record { candidate = place_candidate u a one; leads = (b, solid, walk_same (LeadsOn s lists) a b same) })
+          | inl is ↦
+              (let same = (tx_eq_decides a b).0 is in
+              record { candidate = place_candidate u a one; leads = (b, solid, walk_same (LeadsOn s lists) a b same) })
           | inr isnt ↦
               let differ : b ≢ a = λ same. false≢true (sym isnt ∙ (tx_eq_decides a b).1 (sym same)) in
               let given : edge_between s lists b a ≢ Missing = solid_edge s lists b a half solid differ in
@@ -155,7 +165,8 @@ wanted_are_kept s lists txs wanted candidates few shows = record {
   ascending = (IsGraph-kept_of wanted (graph_of s lists txs) (IsGraph-graph_of s lists txs candidates.ascending few)).ascending;
   each = λ t. (
     (λ held. (let place = wanted_shows wanted txs t held in (shows place.0 t place.1).0 place.2)),
-    (λ kept. (let place = holds_place txs t ((candidates.each t).1 kept.candidate) in wanted_holds wanted txs place.0 t place.1 ((shows place.0 t place.1).1 kept))),
+    (λ kept. (let place = holds_place txs t ((candidates.each t).1 kept.candidate) in
+        wanted_holds wanted txs place.0 t place.1 ((shows place.0 t place.1).1 kept))),
   );
 }
 

@@ -55,7 +55,8 @@ first_edge_opposite s (lists ∷ blocks) u v =
     ∙ ap (λ (f : Edge). or_edge (opposite_of (edge_between s lists v u)) f) (first_edge_opposite s blocks u v)
     ∙ sym (opposite-or_edge (edge_between s lists v u) (first_edge s blocks v u))
 
-none_back : (s : Parameters) (blocks : List (List (List Tx))) (a b : Tx) → AllByRecursion (λ lists. without_earlier lists b a < threshold_of s) blocks → first_edge s blocks b a ≡ To → ⊥
+none_back : (s : Parameters) (blocks : List (List (List Tx))) (a b : Tx)
+    → AllByRecursion (λ lists. without_earlier lists b a < threshold_of s) blocks → first_edge s blocks b a ≡ To → ⊥
 none_back s [] a b few is = (cc)
 none_back s (lists ∷ blocks) a b few is =
     elim (or_edge_to (edge_between s lists b a) (first_edge s blocks b a) is) [
@@ -63,7 +64,8 @@ none_back s (lists ∷ blocks) a b few is =
       | inr later ↦ none_back s blocks a b few.1 later
     ]
 
-pub never_back : (s : Parameters) (blocks : List (List (List Tx))) (a b : Tx) → All (λ lists. without_earlier lists b a < threshold_of s) blocks → first_edge s blocks b a ≡ To → ⊥
+pub never_back : (s : Parameters) (blocks : List (List (List Tx))) (a b : Tx)
+    → All (λ lists. without_earlier lists b a < threshold_of s) blocks → first_edge s blocks b a ≡ To → ⊥
 never_back s blocks a b few = none_back s blocks a b (recursion_from_All (λ lists. without_earlier lists b a < threshold_of s) blocks few)
 
 pub forward_if_given : (s : Parameters) (blocks : List (List (List Tx))) (a b : Tx) → All (λ lists. without_earlier lists b a < threshold_of s) blocks
@@ -76,7 +78,8 @@ forward_if_given s blocks a b few given = go (first_edge s blocks a b) refl
     go Missing is = absurd (given is)
 
 -- in a complete proposal a walk leads from a to b
-pub walk_forward : (s : Parameters) (blocks : List (List (List Tx))) (g : Graph) (u v : ℕ) (a b : Tx) → All (λ lists. without_earlier lists b a < threshold_of s) blocks
+pub walk_forward : (s : Parameters) (blocks : List (List (List Tx))) (g : Graph) (u v : ℕ) (a b : Tx)
+    → All (λ lists. without_earlier lists b a < threshold_of s) blocks
     → HasFirstEdges s blocks g → IsComplete g → slice_get g.vertices u ≡ Some a → slice_get g.vertices v ≡ Some b → Walks (HasEdge g) u v
 walk_forward s blocks g u v a b few edges complete one other =
     elim (cases_eq u v) [
@@ -116,7 +119,8 @@ or_edge_join To f h = refl
 or_edge_join From f h = refl
 or_edge_join Missing f h = refl
 
-first_edge_more : (s : Parameters) (blocks : List (List (List Tx))) (late : List (List Tx)) (u v : Tx) → first_edge s (blocks ++ late ∷ []) u v ≡ or_edge (first_edge s blocks u v) (edge_between s late u v)
+first_edge_more : (s : Parameters) (blocks : List (List (List Tx))) (late : List (List Tx)) (u v : Tx)
+    → first_edge s (blocks ++ late ∷ []) u v ≡ or_edge (first_edge s blocks u v) (edge_between s late u v)
 first_edge_more s [] late u v = or_edge_none (edge_between s late u v)
 first_edge_more s (lists ∷ blocks) late u v =
     ap (λ (f : Edge). or_edge (edge_between s lists u v) f) (first_edge_more s blocks late u v)
@@ -125,8 +129,10 @@ first_edge_more s (lists ∷ blocks) late u v =
 pub fresh_edges : (s : Parameters) (fresh : List (List Tx)) (kept : List Tx) → HasFirstEdges s (fresh ∷ []) (graph_of s fresh kept)
 fresh_edges s fresh kept u v a b one other = edge_of_places s fresh kept u v a b one other ∙ sym (or_edge_none (edge_between s fresh a b))
 
-pub late_edges : (s : Parameters) (blocks : List (List (List Tx))) (late : List (List Tx)) (old new : Graph) → HasFirstEdges s blocks old → new.vertices ≡ old.vertices
-    → ((u v : ℕ) (a b : Tx) → slice_get old.vertices u ≡ Some a → slice_get old.vertices v ≡ Some b → edge_at new u v ≡ or_edge (edge_at old u v) (edge_between s late a b))
+pub late_edges : (s : Parameters) (blocks : List (List (List Tx))) (late : List (List Tx)) (old new : Graph) → HasFirstEdges s blocks old
+    → new.vertices ≡ old.vertices
+    → ((u v : ℕ) (a b : Tx) → slice_get old.vertices u ≡ Some a → slice_get old.vertices v ≡ Some b
+    → edge_at new u v ≡ or_edge (edge_at old u v) (edge_between s late a b))
     → HasFirstEdges s (blocks ++ late ∷ []) new
 late_edges s blocks late old new before same given u v a b one other =
     let from : slice_get old.vertices u ≡ Some a = subst (λ (txs : List Tx). slice_get txs u ≡ Some a) same one in

@@ -36,7 +36,8 @@ before_next p x xs fails =
 first_here : (b a x : Tx) (xs : List Tx) → tx_eq x b ≡ true → holds_without_earlier b a (x ∷ xs) ≡ true
 first_here b a x xs is_b = rw is_b refl
 
-first_after : (b a x : Tx) (xs : List Tx) → tx_eq x b ≡ false → holds_without_earlier b a (x ∷ xs) ≡ (holds b xs && not (tx_eq x a || holds a (before_first (λ y. tx_eq y b) xs)))
+first_after : (b a x : Tx) (xs : List Tx) → tx_eq x b ≡ false
+    → holds_without_earlier b a (x ∷ xs) ≡ (holds b xs && not (tx_eq x a || holds a (before_first (λ y. tx_eq y b) xs)))
 first_after b a x xs not_b =
     ap (λ (c : Bool). (c || holds b xs) && not (holds a (before_first (λ y. tx_eq y b) (x ∷ xs)))) not_b
     ∙ ap (λ (prefix : List Tx). holds b xs && not (holds a prefix)) (before_next (λ y. tx_eq y b) x xs not_b)

@@ -55,7 +55,8 @@ candidates_of s lists = filter (λ t. nat_le (threshold_of s) (listed lists t)) 
 -- whether a walk along these transactions leads from the one of number u to a solid one
 abbrev pub leads_to_solid : Parameters → List (List Tx) → List Tx → ℕ → Bool
 leads_to_solid s lists txs u =
-    list_any (λ v. slice_index_or (map (λ t. nat_le (solid_of s) (listed lists t)) txs) v false && reaches (graph_of s lists txs) u v) (range_with_len 0 (length txs))
+    list_any (λ v. slice_index_or (map (λ t. nat_le (solid_of s) (listed lists t)) txs) v false && reaches (graph_of s lists txs) u v)
+    (range_with_len 0 (length txs))
 
 -- those that are not blank and from which such a walk leads
 abbrev pub kept_by : Parameters → List (List Tx) → List Tx

@@ -45,10 +45,12 @@ solid_are s lists classes txs solid is found =
 pub few_are : (s : Parameters) (lists : List (List Tx)) (txs : List Tx) → AreFresh lists → txs ≡ candidates_of s lists → length txs ≤ 2048
 few_are s lists txs fresh is = omega (arith, ap length is, few_candidates s lists fresh)
 
-pub graph_is : (s : Parameters) (lists : List (List Tx)) (txs : List Tx) (g : Graph) → AreFresh lists → txs ≡ candidates_of s lists → g ≡ graph_of s lists txs → IsGraph g
+pub graph_is : (s : Parameters) (lists : List (List Tx)) (txs : List Tx) (g : Graph) → AreFresh lists → txs ≡ candidates_of s lists
+    → g ≡ graph_of s lists txs → IsGraph g
 graph_is s lists txs g fresh is given = subst IsGraph (sym (given ∙ ap (graph_of s lists) is)) (is_graph s lists fresh)
 
-pub kept_are : (s : Parameters) (lists : List (List Tx)) (classes : Tally) (txs : List Tx) (solid leading : List Bool) (g : Graph) → AreFresh lists → classes ≡ tally_of s lists
+pub kept_are : (s : Parameters) (lists : List (List Tx)) (classes : Tally) (txs : List Tx) (solid leading : List Bool) (g : Graph)
+    → AreFresh lists → classes ≡ tally_of s lists
     → txs ≡ candidates_of s lists → solid ≡ map (λ (t : Tx). nat_le (solid_of s) (count_in classes t)) txs → g ≡ graph_of s lists txs
     → ((u : ℕ) → (get_or leading u false ≡ true) ↔ LeadsToGoal g solid u) → wanted_of leading txs ≡ kept_by s lists
 kept_are s lists classes txs solid leading g fresh is candidates goals given report =
@@ -58,11 +60,13 @@ kept_are s lists classes txs solid leading g fresh is candidates goals given rep
     ap (wanted_of leading) candidates
     ∙ wanted_is_computed s lists fresh leading
     (λ u inside.
-    subst (λ (h : Graph). (get_or leading u false ≡ true) ↔ LeadsToGoal h (map (λ (t : Tx). nat_le (solid_of s) (listed lists t)) (candidates_of s lists)) u) same_graph
+    subst (λ (h : Graph). (get_or leading u false ≡ true) ↔ LeadsToGoal h
+    (map (λ (t : Tx). nat_le (solid_of s) (listed lists t)) (candidates_of s lists)) u) same_graph
     (subst (λ (flags : List Bool). (get_or leading u false ≡ true) ↔ LeadsToGoal g flags u) same_goals (report u)))
 
 -- the wanted part of the graph of the lists is the graph of the wanted transactions
-pub kept_graph_is : (s : Parameters) (lists : List (List Tx)) (ws : List Bool) (txs kept : List Tx) (g : Graph) → g ≡ graph_of s lists txs → wanted_of ws txs ≡ kept
+pub kept_graph_is : (s : Parameters) (lists : List (List Tx)) (ws : List Bool) (txs kept : List Tx) (g : Graph) → g ≡ graph_of s lists txs
+    → wanted_of ws txs ≡ kept
     → kept_of ws g ≡ graph_of s lists kept
 kept_graph_is s lists ws txs kept g given is =
     ap (kept_of ws) given ∙ ap (with_rows (wanted_of ws txs)) (sym (kept_rows (edge_between s lists) ws txs)) ∙ ap (graph_of s lists) is

@@ -77,11 +77,15 @@ answers g goals marks leading is shows u = (
     at : get_or leading u false ≡ is_followed (get_or marks u Unseen)
     at = ap (λ (bs : List Bool). get_or bs u false) is ∙ elim (cases_lt u (length marks)) [
       | inl inside ↦ get_or-map is_followed marks u Unseen false inside
-      | inr past ↦ (let none : get_or (map is_followed marks) u false ≡ false = get_or_past (map is_followed marks) u false (omega (arith, length-map marks is_followed)) in none ∙ sym (ap is_followed (get_or_past marks u Unseen past)))
+      | inr past ↦
+          (let none : get_or (map is_followed marks) u false ≡ false =
+          get_or_past (map is_followed marks) u false (omega (arith, length-map marks is_followed)) in
+          none ∙ sym (ap is_followed (get_or_past marks u Unseen past)))
     ]
 
 -- there is no edge from past the last vertex
-pub none_past : (g : Graph) (at : ℕ) (marks : List Mark) → IsGraph g → (v : ℕ) → length g.vertices ≤ v → length marks ≤ v → get_or marks v Unseen ≡ opened (edge_at g v at) (get_or marks v Unseen)
+pub none_past : (g : Graph) (at : ℕ) (marks : List Mark) → IsGraph g → (v : ℕ) → length g.vertices ≤ v → length marks ≤ v
+    → get_or marks v Unseen ≡ opened (edge_at g v at) (get_or marks v Unseen)
 none_past g at marks graph v past following =
     let none : get_or g.edges v [] ≡ [] = get_or_past g.edges v [] (omega (arith, graph.rows)) in
     let missing : edge_at g v at ≡ Missing = ap (λ (row : List Edge). get_or row at Missing) none in

@@ -58,7 +58,8 @@ module _ (s : Parameters) (late : List (List Tx)) (g : Graph) (graph : IsGraph g
     columns = All-map (λ (row : List Edge). length row ≡ length g.vertices) row_of (zip g.vertices g.edges) (λ k d inside.
         let within : k < length g.vertices = omega (arith, inside, length-zip g.vertices g.edges) in
         let entry : Tx × List Edge = get_or (zip g.vertices g.edges) k d in
-        let row_read : entry.1 ≡ get_or g.edges k d.1 = ap (λ (e : Tx × List Edge). e.1) (get_or-zip g.vertices g.edges k d within (omega (arith, within, graph.rows))) in
+        let row_read : entry.1 ≡ get_or g.edges k d.1 =
+        ap (λ (e : Tx × List Edge). e.1) (get_or-zip g.vertices g.edges k d within (omega (arith, within, graph.rows))) in
         let long : length entry.1 ≡ length g.vertices = ap length row_read ∙ row_length g graph k d.1 within in
         length-map (zip g.vertices entry.1) (entry_of entry.0) ∙ (omega (arith, long, length-zip g.vertices entry.1)));
     one_way = λ u v from to.
@@ -94,16 +95,21 @@ complete-updated s late g graph complete =
       | inl one ↦
           let missing : edge_at g u v ≡ Missing = subst (λ (w : ℕ). edge_at g u w ≡ Missing) one (none_on_diagonal g graph u from) in
           let self : edge_between s late (get_or g.vertices u any_tx) (get_or g.vertices v any_tx) ≡ Missing =
-          subst (λ (w : ℕ). edge_between s late (get_or g.vertices u any_tx) (get_or g.vertices w any_tx) ≡ Missing) one (edge_between-self s late (get_or g.vertices u any_tx)) in
+          subst (λ (w : ℕ). edge_between s late (get_or g.vertices u any_tx) (get_or g.vertices w any_tx) ≡ Missing) one
+          (edge_between-self s late (get_or g.vertices u any_tx)) in
           ap (λ (e : Edge). or_edge e (edge_between s late (get_or g.vertices u any_tx) (get_or g.vertices v any_tx))) missing ∙ self ∙ sym missing
       | inr apart ↦ given_is_left (edge_at g u v) (edge_between s late (get_or g.vertices u any_tx) (get_or g.vertices v any_tx)) (complete u v from to apart)
     ])
 
-module _ (s : Parameters) (late : List (List Tx)) (old given new : Graph) (ranks : List ℕ) (graph : IsGraph old) (graph_now : IsGraph new) (ranked : AreRanked old given.vertices ranks) (weighed : (u v : ℕ) (a b : Tx) → slice_get given.vertices u ≡ Some a → slice_get given.vertices v ≡ Some b → edge_at given u v ≡ edge_between s late a b) (merged : IsMerged old given ranks new) where
+module _ (s : Parameters) (late : List (List Tx)) (old given new : Graph) (ranks : List ℕ)
+    (graph : IsGraph old) (graph_now : IsGraph new) (ranked : AreRanked old given.vertices ranks) (weighed : (u v : ℕ) (a b : Tx)
+    → slice_get given.vertices u ≡ Some a → slice_get given.vertices v ≡ Some b → edge_at given u v ≡ edge_between s late a b)
+    (merged : IsMerged old given ranks new) where
   ascending_pair : (u v : ℕ) → u < v → v < length old.vertices → edge_at new u v ≡ edge_at (updated s late old) u v
   ascending_pair u v below to =
       let from : u < length old.vertices = omega (arith, below, to) in
-      let after : edge_at (updated s late old) u v ≡ or_edge (edge_at old u v) (edge_between s late (get_or old.vertices u any_tx) (get_or old.vertices v any_tx)) =
+      let after : edge_at (updated s late old) u v
+      ≡ or_edge (edge_at old u v) (edge_between s late (get_or old.vertices u any_tx) (get_or old.vertices v any_tx)) =
       edge_at-updated s late old graph u v any_tx from to in
       merged.pairs u v below to ∙ elim (missing_or_given (edge_at old u v)) [
         | inl missing ↦
@@ -112,7 +118,9 @@ module _ (s : Parameters) (late : List (List Tx)) (old given new : Graph) (ranks
             ranked.each u v from to (λ same. absurd (omega (arith, same, below))) missing ∙ slice_get-get_or old.vertices u any_tx from in
             let second : slice_get given.vertices (get_or ranks v 0) ≡ Some (get_or old.vertices v any_tx) =
             ranked.each v u to from (λ same. absurd (omega (arith, same, below))) turned ∙ slice_get-get_or old.vertices v any_tx to in
-            ap (λ (e : Edge). or_edge (edge_at old u v) e) (weighed (get_or ranks u 0) (get_or ranks v 0) (get_or old.vertices u any_tx) (get_or old.vertices v any_tx) first second) ∙ sym after
+            ap (λ (e : Edge). or_edge (edge_at old u v) e)
+            (weighed (get_or ranks u 0) (get_or ranks v 0) (get_or old.vertices u any_tx) (get_or old.vertices v any_tx) first second)
+            ∙ sym after
         | inr given_before ↦
             given_is_left (edge_at old u v) (edge_by_rank given ranks u v) given_before
             ∙ sym (after ∙ given_is_left (edge_at old u v) (edge_between s late (get_or old.vertices u any_tx) (get_or old.vertices v any_tx)) given_before)

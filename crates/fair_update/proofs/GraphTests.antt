@@ -27,13 +27,15 @@ missing_from_test From is = absurd (cc)
 missing_from_test Missing is = refl
 
 -- vertices at different indices differ
-ordered_apart : (vertices : List Tx) (u v : ℕ) (d : Tx) → IsStrictlySortedBy tx_cmp vertices → u < v → v < length vertices → get_or vertices u d ≡ get_or vertices v d → ⊥
+ordered_apart : (vertices : List Tx) (u v : ℕ) (d : Tx) → IsStrictlySortedBy tx_cmp vertices → u < v → v < length vertices
+    → get_or vertices u d ≡ get_or vertices v d → ⊥
 ordered_apart vertices u v d ascending below inside same =
     let less : tx_cmp (get_or vertices u d) (get_or vertices v d) ≡ Less = Less-from_sorted tx_cmp vertices u v d ascending below inside in
     let self : tx_cmp (get_or vertices v d) (get_or vertices v d) ≡ Less = subst (λ (t : Tx). tx_cmp t (get_or vertices v d) ≡ Less) same less in
     one_rises (get_or vertices v d) (get_or vertices v d) (ap is_lt self) (ap is_lt self)
 
-pub vertices_apart : (vertices : List Tx) (u v : ℕ) (d : Tx) → IsStrictlySortedBy tx_cmp vertices → u < length vertices → v < length vertices → u ≢ v → get_or vertices u d ≡ get_or vertices v d → ⊥
+pub vertices_apart : (vertices : List Tx) (u v : ℕ) (d : Tx) → IsStrictlySortedBy tx_cmp vertices → u < length vertices
+    → v < length vertices → u ≢ v → get_or vertices u d ≡ get_or vertices v d → ⊥
 vertices_apart vertices u v d ascending from to apart same =
     elim (cases_order u v) [
       | inl one ↦ apart one
@@ -52,7 +54,8 @@ module _ (g : Graph) (graph : IsGraph g) where
   of_table t entry = tx_eq entry.0 t && lacks g.vertices entry.0 entry.1
 
   -- a missing entry of a row
-  missing_entry : (u : ℕ) (t : Tx) (d : List Edge) → u < length g.vertices → slice_get g.vertices u ≡ Some t → lacks g.vertices t (get_or g.edges u d) ≡ true → Waits g t
+  missing_entry : (u : ℕ) (t : Tx) (d : List Edge) → u < length g.vertices → slice_get g.vertices u ≡ Some t
+      → lacks g.vertices t (get_or g.edges u d) ≡ true → Waits g t
   missing_entry u t d inside from is =
       let row : List Edge = get_or g.edges u d in
       let long : length row ≡ length g.vertices = row_length u d inside in
@@ -86,9 +89,11 @@ module _ (g : Graph) (graph : IsGraph g) where
       let within : u < length g.vertices = omega (arith, found.2, length-zip g.vertices g.edges) in
       let inside : u < length g.edges = omega (arith, within, graph.rows) in
       let read : entry ≡ (get_or g.vertices u entry.0, get_or g.edges u entry.1) = sym found.3 ∙ get_or-zip g.vertices g.edges u entry within inside in
-      let parts : (tx_eq entry.0 t ≡ true) × (lacks g.vertices entry.0 entry.1 ≡ true) = and_parts (tx_eq entry.0 t) (lacks g.vertices entry.0 entry.1) found.4 in
+      let parts : (tx_eq entry.0 t ≡ true) × (lacks g.vertices entry.0 entry.1 ≡ true) =
+      and_parts (tx_eq entry.0 t) (lacks g.vertices entry.0 entry.1) found.4 in
       let is_t : entry.0 ≡ t = (tx_eq_decides entry.0 t).0 parts.0 in
-      let from : slice_get g.vertices u ≡ Some t = slice_get-get_or g.vertices u entry.0 within ∙ ap (λ (x : Tx). Some x) (sym (ap (λ (e : Tx × List Edge). e.0) read) ∙ is_t) in
+      let from : slice_get g.vertices u ≡ Some t =
+      slice_get-get_or g.vertices u entry.0 within ∙ ap (λ (x : Tx). Some x) (sym (ap (λ (e : Tx × List Edge). e.0) read) ∙ is_t) in
       let row_read : entry.1 ≡ get_or g.edges u entry.1 = ap (λ (e : Tx × List Edge). e.1) read in
       missing_entry u t entry.1 within from
       (subst (λ (row : List Edge). lacks g.vertices t row ≡ true) row_read (subst (λ (x : Tx). lacks g.vertices x entry.1 ≡ true) is_t parts.1))
@@ -104,9 +109,11 @@ module _ (g : Graph) (graph : IsGraph g) where
       let long : v < length row = omega (arith, is.to, row_length u [] within) in
       let here : get_or g.vertices u t ≡ t = get_or_from_slice_get g.vertices u t t is.from in
       let other : tx_eq (get_or g.vertices v t) t ≡ false =
-      false_from_ne_true (tx_eq (get_or g.vertices v t) t) (λ same. vertices_apart g.vertices u v t graph.ascending within is.to is.apart (here ∙ sym ((tx_eq_decides (get_or g.vertices v t) t).0 same))) in
+      false_from_ne_true (tx_eq (get_or g.vertices v t) t)
+      (λ same. vertices_apart g.vertices u v t graph.ascending within is.to is.apart (here ∙ sym ((tx_eq_decides (get_or g.vertices v t) t).0 same))) in
       let entry : of_row t (get_or g.vertices v t, get_or row v Missing) ≡ true =
-      and_from (is_missing (get_or row v Missing)) (not (tx_eq (get_or g.vertices v t) t)) (ap is_missing is.missing) (not_from_false (tx_eq (get_or g.vertices v t) t) other) in
+      and_from (is_missing (get_or row v Missing)) (not (tx_eq (get_or g.vertices v t) t)) (ap is_missing is.missing)
+      (not_from_false (tx_eq (get_or g.vertices v t) t) other) in
       let lacking : lacks g.vertices t row ≡ true =
       list_any_at (of_row t) (zip g.vertices row) v (t, Missing) (omega (arith, is.to, long, length-zip g.vertices row))
       (subst (λ (e : Tx × Edge). of_row t e ≡ true) (sym (get_or-zip g.vertices row v (t, Missing) is.to long)) entry) in
@@ -142,7 +149,8 @@ module _ (g : Graph) (graph : IsGraph g) where
       let pair : Waits g t = waits_shows t is in
       let there : pair.0 < length g.vertices = slice_get_within g.vertices pair.0 t pair.2.from in
       let here : u < length g.vertices = slice_get_within g.vertices u t from in
-      let one : get_or g.vertices pair.0 t ≡ get_or g.vertices u t = get_or_from_slice_get g.vertices pair.0 t t pair.2.from ∙ sym (get_or_from_slice_get g.vertices u t t from) in
+      let one : get_or g.vertices pair.0 t ≡ get_or g.vertices u t = get_or_from_slice_get g.vertices pair.0 t t pair.2.from
+      ∙ sym (get_or_from_slice_get g.vertices u t t from) in
       elim (cases_eq pair.0 u) [
         | inl same ↦
             given pair.1 pair.2.to (λ e. pair.2.apart (same ∙ e)) (subst (λ (x : ℕ). edge_at g x pair.1 ≡ Missing) same pair.2.missing)

@@ -34,7 +34,13 @@ filter_at p xs u x inside here passes =
 module _ (g : Graph) (u : ℕ) (txs : List Tx) (ranks : List ℕ) (counted : AreCounted g u txs ranks) (inside : u < length g.vertices) where
   pub counted_few : length txs ≤ u
   counted_few =
-      omega (arith, ap length counted.txs_are, length-filter (waits g) (take u g.vertices), count_by-le-length (waits g) (take u g.vertices), length-take-le u g.vertices (omega (arith, inside)))
+      omega (
+        arith,
+        ap length counted.txs_are,
+        length-filter (waits g) (take u g.vertices),
+        count_by-le-length (waits g) (take u g.vertices),
+        length-take-le u g.vertices (omega (arith, inside)),
+      )
 
   each_more : (x : ℕ) → x < u + 1 → get_or (ranks ++ length txs ∷ []) x 0 ≡ count_by (waits g) (take x g.vertices)
   each_more x below =
@@ -47,7 +53,8 @@ module _ (g : Graph) (u : ℕ) (txs : List Tx) (ranks : List ℕ) (counted : Are
       ]
 
   -- one more vertex, which waits or does not
-  pub counted_yes : (t : Tx) (txs_now : List Tx) (ranks_now : List ℕ) → get_or g.vertices u t ≡ t → waits g t ≡ true → txs_now ≡ txs ++ t ∷ [] → ranks_now ≡ ranks ++ length txs ∷ []
+  pub counted_yes : (t : Tx) (txs_now : List Tx) (ranks_now : List ℕ) → get_or g.vertices u t ≡ t → waits g t ≡ true
+      → txs_now ≡ txs ++ t ∷ [] → ranks_now ≡ ranks ++ length txs ∷ []
       → AreCounted g (u + 1) txs_now ranks_now
   counted_yes t txs_now ranks_now here is txs_are ranks_are = record {
     txs_are = txs_are ∙ ap (λ (ts : List Tx). ts ++ t ∷ []) counted.txs_are
@@ -58,12 +65,14 @@ module _ (g : Graph) (u : ℕ) (txs : List Tx) (ranks : List ℕ) (counted : Are
     each = λ x below. ap (λ (rs : List ℕ). get_or rs x 0) ranks_are ∙ each_more x below;
   }
 
-  pub counted_no : (t : Tx) (txs_now : List Tx) (ranks_now : List ℕ) → get_or g.vertices u t ≡ t → waits g t ≡ false → txs_now ≡ txs → ranks_now ≡ ranks ++ length txs ∷ []
+  pub counted_no : (t : Tx) (txs_now : List Tx) (ranks_now : List ℕ) → get_or g.vertices u t ≡ t → waits g t ≡ false → txs_now ≡ txs
+      → ranks_now ≡ ranks ++ length txs ∷ []
       → AreCounted g (u + 1) txs_now ranks_now
   counted_no t txs_now ranks_now here is txs_are ranks_are = record {
     txs_are = txs_are ∙ counted.txs_are
         ∙ sym (filter_more (waits g) g.vertices u t inside
-        ∙ ap (λ (rest : List Tx). filter (waits g) (take u g.vertices) ++ rest) (cond-false (waits g (get_or g.vertices u t)) (get_or g.vertices u t ∷ []) [] (ap (waits g) here ∙ is))
+        ∙ ap (λ (rest : List Tx). filter (waits g) (take u g.vertices) ++ rest)
+        (cond-false (waits g (get_or g.vertices u t)) (get_or g.vertices u t ∷ []) [] (ap (waits g) here ∙ is))
         ∙ append-nil (filter (waits g) (take u g.vertices)));
     long = ap length ranks_are ∙ length-append ranks (length txs ∷ []) ∙ ap (λ (n : ℕ). n + 1) counted.long;
     each = λ x below. ap (λ (rs : List ℕ). get_or rs x 0) ranks_are ∙ each_more x below;
@@ -81,7 +90,8 @@ module _ (g : Graph) (graph : IsGraph g) where
   waiting_few = omega (arith, length-filter (waits g) g.vertices, count_by-le-length (waits g) g.vertices, graph.few)
 
   -- and each vertex of a missing pair has its rank
-  pub counted_are_ranked : (txs waiting : List Tx) (ranks : List ℕ) → AreCounted g (length g.vertices) txs ranks → waiting ≡ waiting_of g → AreRanked g waiting ranks
+  pub counted_are_ranked : (txs waiting : List Tx) (ranks : List ℕ) → AreCounted g (length g.vertices) txs ranks → waiting ≡ waiting_of g
+      → AreRanked g waiting ranks
   counted_are_ranked txs waiting ranks counted waiting_is = record {
     long = counted.long;
     each = λ u v from to apart missing.

@@ -73,7 +73,9 @@ insert_bytes place p m low top s (e ∷ es) above rises =
           rw (due_less p m e.0.0 e.0.1 below)
           (elim (cases_Bool (p == place)) [
             | inl same ↦
-                let none : bytes_to place (e ∷ es) ≡ [] = bytes_below place e.0.0 top (e ∷ es) (let is : p ≡ place = grind (arith, nat_tests) in omega arith) (omega arith, rises.1, rises.2) in
+                let none : bytes_to place (e ∷ es) ≡ [] =
+                bytes_below place e.0.0 top (e ∷ es) (let is : p ≡ place = grind (arith, nat_tests) in omega arith)
+                (omega arith, rises.1, rises.2) in
                 rw (same, none)
             | inr other ↦ rw (other, append-nil (bytes_to place (e ∷ es)))
           ])
@@ -121,7 +123,8 @@ left_bytes place number (e ∷ es) above =
     ]
 
 -- one send more, held or not
-with_rises : (fault : Option LinkKind) (number sent : ℕ) (s : List ℕ) (es : List Held) → sent < number → Rises number sent es → Rises number number (held_with fault number s es)
+with_rises : (fault : Option LinkKind) (number sent : ℕ) (s : List ℕ) (es : List Held) → sent < number → Rises number sent es
+    → Rises number number (held_with fault number s es)
 with_rises None number sent s es above rises = higher number sent number es (omega arith) rises
 with_rises (Some Lose) number sent s es above rises = higher number sent number es (omega arith) rises
 with_rises (Some Twice) number sent s es above rises = higher number sent number es (omega arith) rises
@@ -137,7 +140,8 @@ with_bytes (Some Garble) place number sent s es above rises = sym (append-nil (b
 with_bytes (Some (Hold count)) place number sent s es above rises = insert_bytes place (number + count) number number sent s es above rises
 
 held_to-push : (script : Script) (place number : ℕ) (earlier : List (List ℕ)) (s : List ℕ)
-    → held_to script place number (earlier ++ s ∷ []) ≡ held_to script place number earlier ++ cond (is_held_to place (number + length earlier) (script (number + length earlier))) (s ∷ []) []
+    → held_to script place number (earlier ++ s ∷ []) ≡ held_to script place number earlier
+    ++ cond (is_held_to place (number + length earlier) (script (number + length earlier))) (s ∷ []) []
 held_to-push script place number [] s =
     let same : number + length {A = List ℕ} [] ≡ number = omega arith in
     rw (same, append-nil (cond (is_held_to place number (script number)) (s ∷ []) []))
@@ -162,14 +166,16 @@ now_rises script l earlier s keeps few =
     rw (number_is script l earlier keeps few)
     (with_rises (fault_in l.script (length earlier + 1)) (length earlier + 1) (length earlier) s l.held (omega arith) keeps.rises)
 
-now_bytes : (script : Script) (l : Link) (earlier : List (List ℕ)) (s : List ℕ) (place : ℕ) → Keeps script l earlier → length earlier < most_sends → length earlier < place
+now_bytes : (script : Script) (l : Link) (earlier : List (List ℕ)) (s : List ℕ) (place : ℕ) → Keeps script l earlier
+    → length earlier < most_sends → length earlier < place
     → bytes_to place (now_held l s) ≡ held_to script place 1 (earlier ++ s ∷ [])
 now_bytes script l earlier s place keeps few above =
     let same : 1 + length earlier ≡ length earlier + 1 = omega arith in
     rw (number_is script l earlier keeps few, held_to-push script place 1 earlier s, same, ← keeps.held place above, ← keeps.faults (length earlier + 1))
     (with_bytes (fault_in l.script (length earlier + 1)) place (length earlier + 1) (length earlier) s l.held (omega arith) keeps.rises)
 
-given_is : (script : Script) (l : Link) (earlier : List (List ℕ)) (s : List ℕ) → Keeps script l earlier → length earlier < most_sends → given_by l s ≡ given_for script earlier s
+given_is : (script : Script) (l : Link) (earlier : List (List ℕ)) (s : List ℕ) → Keeps script l earlier → length earlier < most_sends
+    → given_by l s ≡ given_for script earlier s
 unfolding given_by
 given_is script l earlier s keeps few =
     let due : due_of (length earlier + 1) (now_held l s) ≡ held_to script (length earlier + 1) 1 (earlier ++ s ∷ []) =
@@ -182,7 +188,8 @@ given_is script l earlier s keeps few =
     joined : (a b : Option LinkKind) (s : List ℕ) (xs ys : List (List ℕ)) → a ≡ b → xs ≡ ys → at_own_place a s ++ xs ≡ at_own_place b s ++ ys
     joined a b s xs ys e d = rw (e, d)
 
-passed_keeps : (script : Script) (l : Link) (earlier : List (List ℕ)) (s : List ℕ) → Keeps script l earlier → length earlier < most_sends → Keeps script (passed l s) (earlier ++ s ∷ [])
+passed_keeps : (script : Script) (l : Link) (earlier : List (List ℕ)) (s : List ℕ) → Keeps script l earlier → length earlier < most_sends
+    → Keeps script (passed l s) (earlier ++ s ∷ [])
 unfolding passed
 passed_keeps script l earlier s keeps few =
     let number = number_is script l earlier keeps few in
@@ -199,7 +206,8 @@ passed_keeps script l earlier s keeps few =
           (left_bytes place (length earlier + 1) (now_held l s) beyond ∙ now_bytes script l earlier s place keeps few (omega arith));
     }
 
-given_from : (script : Script) (l : Link) (earlier sends : List (List ℕ)) → Keeps script l earlier → length earlier + length sends ≤ most_sends → given_in_all l sends ≡ link_after script earlier sends
+given_from : (script : Script) (l : Link) (earlier sends : List (List ℕ)) → Keeps script l earlier
+    → length earlier + length sends ≤ most_sends → given_in_all l sends ≡ link_after script earlier sends
 given_from script l earlier [] keeps few = refl
 given_from script l earlier (s ∷ ss) keeps few =
     let here : length earlier < most_sends = omega arith in
@@ -244,7 +252,8 @@ later_all None g true kind = refl
 later_all None g false kind = refl
 later_all (Some k) g b kind = refl
 
-script_is : (number from to : ℕ) (script : List (ℕ × LinkKind)) (links : List LinkFault) → fault_in (script_onto script from to links) number ≡ later_or (fault_at links from to number) (fault_in script number)
+script_is : (number from to : ℕ) (script : List (ℕ × LinkKind)) (links : List LinkFault)
+    → fault_in (script_onto script from to links) number ≡ later_or (fault_at links from to number) (fault_in script number)
 script_is number from to script [] = refl
 script_is number from to script (l ∷ ls) =
     elim (cases_Bool ((l.from == from) && (l.to == to))) [
@@ -269,10 +278,12 @@ opening_keeps links from to = record {
     later_none None = refl
     later_none (Some kind) = refl
 
-pub passes_are_link : (links : List LinkFault) (from to : ℕ) (sends : List (List ℕ)) → length sends ≤ most_sends → given_in_all (opening links from to) sends ≡ link (fault_at links from to) sends
+pub passes_are_link : (links : List LinkFault) (from to : ℕ) (sends : List (List ℕ)) → length sends ≤ most_sends
+    → given_in_all (opening links from to) sends ≡ link (fault_at links from to) sends
 passes_are_link links from to sends few = given_from (fault_at links from to) (opening links from to) [] sends (opening_keeps links from to) (omega arith)
 
-pub link_goes_on : (script : Script) (earlier sends more : List (List ℕ)) → link_after script earlier (sends ++ more) ≡ link_after script earlier sends ++ link_after script (earlier ++ sends) more
+pub link_goes_on : (script : Script) (earlier sends more : List (List ℕ))
+    → link_after script earlier (sends ++ more) ≡ link_after script earlier sends ++ link_after script (earlier ++ sends) more
 link_goes_on script earlier [] more = rw (append-nil earlier)
 link_goes_on script earlier (s ∷ ss) more =
     rw (link_goes_on script (earlier ++ s ∷ []) ss more, append_assoc earlier (s ∷ []) ss)

@@ -49,4 +49,5 @@ later_or None earlier = earlier
 
 abbrev pub fault_at : List LinkFault → ℕ → ℕ → Script
 fault_at [] from to number = None
-fault_at (l ∷ ls) from to number = later_or (fault_at ls from to number) (if ((l.from == from) && (l.to == to)) && (l.number == number) then Some l.kind else None)
+fault_at (l ∷ ls) from to number =
+    later_or (fault_at ls from to number) (if ((l.from == from) && (l.to == to)) && (l.number == number) then Some l.kind else None)

@@ -59,11 +59,13 @@ abbrev pub resealed : LocalOrder → List ℕ → SealedOrder
 resealed order seal = record { order = order; seal = seal }
 
 abbrev pub reverse_vote : Signer → Outgoing → Vote → Option SealedOrder → Option Outgoing × Signer
-reverse_vote s send vote (Some o) = sealed s (order_spelling (reversed o.order)) (λ seal. in_place send (message.Vote vote (Some (resealed (reversed o.order) seal))))
+reverse_vote s send vote (Some o) =
+    sealed s (order_spelling (reversed o.order)) (λ seal. in_place send (message.Vote vote (Some (resealed (reversed o.order) seal))))
 reverse_vote s send vote None = (Some send, s)
 
 abbrev pub reverse_message : Signer → Outgoing → Option Message → Option Outgoing × Signer
-reverse_message s send (Some (message.Order o)) = sealed s (order_spelling (reversed o.order)) (λ seal. in_place send (message.Order (resealed (reversed o.order) seal)))
+reverse_message s send (Some (message.Order o)) =
+    sealed s (order_spelling (reversed o.order)) (λ seal. in_place send (message.Order (resealed (reversed o.order) seal)))
 reverse_message s send (Some (message.Vote vote order)) = reverse_vote s send vote order
 reverse_message s send (Some (message.NewView replica view cert seal)) = (Some send, s)
 reverse_message s send (Some (message.Ask replica view cert seal)) = (Some send, s)
@@ -137,7 +139,8 @@ abbrev pub seconds : List Made → Signer → Seconds
 seconds made signer = record { made = made; signer = signer }
 
 -- The result, the sealer after it and the replacements so far are those of a step.
-abbrev pub Exchanges : {S X : Type 0} → (S → ℕ) → (S → ℕ) → (S → ℕ → List ℕ → List ℕ) → (S → ℕ) → S → S → List Made → List Made → (Seconds → X × Seconds) → X → Type 0
+abbrev pub Exchanges : {S X : Type 0} → (S → ℕ) → (S → ℕ) → (S → ℕ → List ℕ → List ℕ) → (S → ℕ) → S → S → List Made → List Made
+    → (Seconds → X × Seconds) → X → Type 0
 Exchanges replica capacity gives made old new before after step x =
     (x, seconds after (signer_of replica capacity gives made new)) ≡ step (seconds before (signer_of replica capacity gives made old))
 

@@ -107,7 +107,8 @@ pub(crate) fn resealed<S: Sealer>(
     sealer: &mut S,
     order: LocalOrder,
 ) -> Result<Option<SealedOrder>, NoMemory>
-    ensures value { IfOk result (λ out. SealsBy S.replica S.capacity S.gives S.made sealer.old sealer.new (λ s. sealed s (order_spelling order) (λ seal. resealed order seal)) out) }
+    ensures value { IfOk result
+        (λ out. SealsBy S.replica S.capacity S.gives S.made sealer.old sealer.new (λ s. sealed s (order_spelling order) (λ seal. resealed order seal)) out) }
     ensures sealer { SealsOn S.replica S.capacity S.gives S.made sealer.old sealer.new }
 {
     match seal_if_left(sealer, order_bytes(alloc, &order)?.as_slice())? {

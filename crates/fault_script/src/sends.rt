@@ -25,7 +25,8 @@ pub fn twist<S: Sealer>(
     sealer: &mut S,
     sends: Vec<Outgoing>,
 ) -> Result<Vec<Outgoing>, NoMemory>
-    ensures value { IfOk result (λ out. SealsBy S.replica S.capacity S.gives S.made sealer.old sealer.new (λ s. twisted deeds.now setting.now.n s sends.items) out.items) }
+    ensures value { IfOk result
+        (λ out. SealsBy S.replica S.capacity S.gives S.made sealer.old sealer.new (λ s. twisted deeds.now setting.now.n s sends.items) out.items) }
     ensures sealer { SealsOn S.replica S.capacity S.gives S.made sealer.old sealer.new }
 {
     let own = sealer.replica();
@@ -43,7 +44,8 @@ fn all_stale<S: Sealer>(
     sealer: &mut S,
     sends: Vec<Outgoing>,
 ) -> Result<Vec<Outgoing>, NoMemory>
-    ensures value { IfOk result (λ out. SealsBy S.replica S.capacity S.gives S.made sealer.old sealer.new (λ s. through (stale_of deeds.now) s [] sends.items) out.items) }
+    ensures value { IfOk result
+        (λ out. SealsBy S.replica S.capacity S.gives S.made sealer.old sealer.new (λ s. through (stale_of deeds.now) s [] sends.items) out.items) }
     ensures sealer { SealsOn S.replica S.capacity S.gives S.made sealer.old sealer.new }
 {
     let mut out = Vec::new(alloc);
@@ -62,7 +64,8 @@ fn all_reversed<S: Sealer>(
     sealer: &mut S,
     sends: Vec<Outgoing>,
 ) -> Result<Vec<Outgoing>, NoMemory>
-    ensures value { IfOk result (λ out. SealsBy S.replica S.capacity S.gives S.made sealer.old sealer.new (λ s. through (reverse_of deeds.now) s [] sends.items) out.items) }
+    ensures value { IfOk result
+        (λ out. SealsBy S.replica S.capacity S.gives S.made sealer.old sealer.new (λ s. through (reverse_of deeds.now) s [] sends.items) out.items) }
     ensures sealer { SealsOn S.replica S.capacity S.gives S.made sealer.old sealer.new }
 {
     let mut out = Vec::new(alloc);

@@ -41,7 +41,8 @@ pub(crate) fn two_blocks<S: Sealer>(
     sealer: &mut S,
     sends: Vec<Outgoing>,
 ) -> Result<Vec<Outgoing>, NoMemory>
-    ensures value { IfOk result (λ out. SealsBy S.replica S.capacity S.gives S.made sealer.old sealer.new (λ s. two_blocks_in deeds.now setting.now.n s sends.items) out.items) }
+    ensures value { IfOk result
+        (λ out. SealsBy S.replica S.capacity S.gives S.made sealer.old sealer.new (λ s. two_blocks_in deeds.now setting.now.n s sends.items) out.items) }
     ensures sealer { SealsOn S.replica S.capacity S.gives S.made sealer.old sealer.new }
 {
     let mut out = Vec::new(alloc);
@@ -64,7 +65,8 @@ fn exchanged_above<S: Sealer>(
     made: &mut Vec<Made>,
     send: Outgoing,
 ) -> Result<Option<Outgoing>, NoMemory>
-    ensures value { IfOk result (λ out. Exchanges S.replica S.capacity S.gives S.made sealer.old sealer.new made.old.items made.new.items (λ s. two_blocks_of deeds.now setting.now.n s send) out) }
+    ensures value { IfOk result (λ out. Exchanges S.replica S.capacity S.gives S.made sealer.old sealer.new made.old.items made.new.items
+        (λ s. two_blocks_of deeds.now setting.now.n s send) out) }
     ensures sealer { SealsOn S.replica S.capacity S.gives S.made sealer.old sealer.new }
 {
     if send.to < setting.n() / 2 {
@@ -154,7 +156,8 @@ fn second_block<S: Sealer>(
     replica: u32,
     block: Block,
 ) -> Result<Second, NoMemory>
-    ensures value { IfOk result (λ second. SealsBy S.replica S.capacity S.gives S.made sealer.old sealer.new (λ s. second_block s replica block (own_place s.replica block.orders)) second) }
+    ensures value { IfOk result (λ second. SealsBy S.replica S.capacity S.gives S.made sealer.old sealer.new
+        (λ s. second_block s replica block (own_place s.replica block.orders)) second) }
     ensures sealer { SealsOn S.replica S.capacity S.gives S.made sealer.old sealer.new }
 {
     match own_place(block.orders.as_slice(), sealer.replica()) {
@@ -170,7 +173,8 @@ fn second_at<S: Sealer>(
     block: Block,
     at: usize,
 ) -> Result<Second, NoMemory>
-    ensures value { IfOk result (λ second. SealsBy S.replica S.capacity S.gives S.made sealer.old sealer.new (λ s. second_at s replica block at (slice_get block.orders at)) second) }
+    ensures value { IfOk result
+        (λ second. SealsBy S.replica S.capacity S.gives S.made sealer.old sealer.new (λ s. second_at s replica block at (slice_get block.orders at)) second) }
     ensures sealer { SealsOn S.replica S.capacity S.gives S.made sealer.old sealer.new }
 {
     let emptied = match block.orders.as_slice().get(at) {
@@ -212,7 +216,8 @@ fn second_proposal<S: Sealer>(
     at: usize,
     own: LocalOrder,
 ) -> Result<Option<Packet>, NoMemory>
-    ensures value { IfOk result (λ bytes. SealsBy S.replica S.capacity S.gives S.made sealer.old sealer.new (λ s. second_proposal s replica block at own) bytes) }
+    ensures value { IfOk result
+        (λ bytes. SealsBy S.replica S.capacity S.gives S.made sealer.old sealer.new (λ s. second_proposal s replica block at own) bytes) }
     ensures sealer { SealsOn S.replica S.capacity S.gives S.made sealer.old sealer.new }
 {
     let Some(own) = resealed(alloc, sealer, own)? else {

@@ -97,7 +97,8 @@ module _ (by : Scale) (journal : List Entry) (lawful : IsLawful by journal) (rep
     pub plainly : IsValidBlock by.setting (map shown before) (named brings.block)
     pub shape : IsWritableBlock brings.block
 
-  valid_block : (before : List Entry) (m : MessageView) (b : Block) → block_in m ≡ Some b → MayBeDone by before (Some m) → MayBeDonePlainly by.setting (map shown before) (shown_message (Some m))
+  valid_block : (before : List Entry) (m : MessageView) (b : Block) → block_in m ≡ Some b → MayBeDone by before (Some m)
+      → MayBeDonePlainly by.setting (map shown before) (shown_message (Some m))
       → IsValidIn by before b × IsValidBlock by.setting (map shown before) (named b)
   valid_block before (NewView call) b found done plainly = absurd (none-some b found)
   valid_block before (Ask call) b found done plainly = absurd (none-some b found)
@@ -111,7 +112,8 @@ module _ (by : Scale) (journal : List Entry) (lawful : IsLawful by journal) (rep
       let same : block ≡ b = same_Some block b found in
       (subst (IsValidIn by before) same done, subst (λ (c : Block). IsValidBlock by.setting (map shown before) (named c)) same plainly)
 
-  pub was_carried : (prefix rest : List Entry) → journal ≡ prefix ++ rest → (e : Plain) (b : Named) → Contains (map shown prefix) e → e.is_done ≡ true → block_of e.message ≡ Some b
+  pub was_carried : (prefix rest : List Entry) → journal ≡ prefix ++ rest → (e : Plain) (b : Named) → Contains (map shown prefix) e
+      → e.is_done ≡ true → block_of e.message ≡ Some b
       → WasCarried prefix b
   was_carried prefix rest is e b inside done carries =
       let real = shown_by prefix e inside in
@@ -122,9 +124,19 @@ module _ (by : Scale) (journal : List Entry) (lawful : IsLawful by journal) (rep
       let was = was_done split.before real.entry (split.after ++ rest) whole (ap (λ (p : Plain). p.is_done) real.same ∙ done) in
       let both = valid_block split.before found.message found.block found.brings (subst (MayBeDone by split.before) found.is was.done)
       (subst (λ (m : Option MessageView). MayBeDonePlainly by.setting (map shown split.before) (shown_message m)) found.is was.plainly) in
-      let there : Contains journal real.entry = subst (λ (es : List Entry). Contains es real.entry) (sym whole) (at_split split.before real.entry (split.after ++ rest)) in
+      let there : Contains journal real.entry =
+      subst (λ (es : List Entry). Contains es real.entry) (sym whole) (at_split split.before real.entry (split.after ++ rest)) in
       let can = readable_in real.entry.event found.message (All-contains (λ e. IsReadable e.event) journal real.entry reported there) found.is in
-      record { before = split.before; entry = real.entry; after = split.after; is = split.is; brings = found; valid = both.0; plainly = both.1; shape = writable_block found.message found.block found.brings can }
+      record {
+        before = split.before;
+        entry = real.entry;
+        after = split.after;
+        is = split.is;
+        brings = found;
+        valid = both.0;
+        plainly = both.1;
+        shape = writable_block found.message found.block found.brings can;
+      }
 
   -- the view of a stored block is a number of 32 bits
   pub stored_is_small : (prefix rest : List Entry) → journal ≡ prefix ++ rest → (b : Named) → Contains (stored (map shown prefix)) b → b.view < 2 ^ 32

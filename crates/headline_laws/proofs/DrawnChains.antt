@@ -71,7 +71,8 @@ module _ (laws : Laws) (fits : Check) (run : RunRecord) (sound : IsSound fits ru
     valid : IsValidIn (scale_of fits run replica) before b
     shape : IsWritableBlock b
     own : chain_at before b.cert.block ≡ over
-    others : (prefix : List Entry) → IsHonestPrefix laws fits run sound prefix → (p : Named) → block_at (stored (map shown prefix)) b.cert.block ≡ Some p → chain_at prefix b.cert.block ≡ over
+    others : (prefix : List Entry) → IsHonestPrefix laws fits run sound prefix → (p : Named)
+        → block_at (stored (map shown prefix)) b.cert.block ≡ Some p → chain_at prefix b.cert.block ≡ over
 
   -- An order that an honest replica sealed was drawn, after a prefix of its journal.
   record WasDrawn (q : ℕ) (order : LocalOrder) : Type 0 where
@@ -89,35 +90,41 @@ module _ (laws : Laws) (fits : Check) (run : RunRecord) (sound : IsSound fits ru
         before = split.before;
         entry = has.entry;
         is_prefix = record { replica = q; honest = signs; rest = split.after; is = split.is ∙ moved split.before has.entry split.after };
-        drawn = All-contains (λ statement. get_or statement 0 0 ≡ ORDER → IsDrawn (scale_of fits run q) split.before has.entry statement) has.entry.turned.sealed (order_spelling order)
+        drawn = All-contains (λ statement. get_or statement 0 0 ≡ ORDER → IsDrawn (scale_of fits run q) split.before has.entry statement)
+            has.entry.turned.sealed (order_spelling order)
             ((sound.lawful.obeys q signs).journal split.before has.entry split.after split.is 3) has.sealed refl;
       }
 
   -- It is the one that is drawn for what its statement names.
   order_is : (q : ℕ) (order : LocalOrder) → IsWritableOrder (bare order) → (w : WasDrawn q order)
-      → order ≡ order_drawn order.replica order.view order.parent (take w.entry.turned.kept (arrivals_in run q)) (standing_at s (up_to w.before w.entry) order.parent)
+      → order ≡ order_drawn order.replica order.view order.parent (take w.entry.turned.kept (arrivals_in run q))
+      (standing_at s (up_to w.before w.entry) order.parent)
   order_is q order writable w =
       let txs : List Tx = take w.entry.turned.kept (arrivals_in run q) in
       let prefix : List Entry = up_to w.before w.entry in
       let statement : List ℕ = order_spelling order in
       let drawn : LocalOrder = order_drawn order.replica order.view order.parent txs (standing_at s prefix order.parent) in
       let named : order_named (scale_of fits run q) w.before w.entry statement ≡ drawn =
-      ap (λ (r : ℕ). order_drawn r (view_named statement) (parent_named statement) txs (standing_at s prefix (parent_named statement))) (laws.replica order writable.replica)
+      ap (λ (r : ℕ). order_drawn r (view_named statement) (parent_named statement) txs (standing_at s prefix (parent_named statement)))
+      (laws.replica order writable.replica)
       ∙ ap (λ (v : ℕ). order_drawn order.replica v (parent_named statement) txs (standing_at s prefix (parent_named statement))) (laws.view order writable.view)
       ∙ ap (λ (p : Digest). order_drawn order.replica order.view p txs (standing_at s prefix p)) (laws.parent order writable.parent) in
       let can : IsWritableOrder (bare drawn) = record {
         replica = writable.replica;
         view = writable.view;
         parent = writable.parent;
-        fresh = writable_list 128 _ txs (distinct_prefix w.entry.turned.kept (arrivals_in run q) (sound.lawful.distinct q w.signs)) (All-take FitsTx w.entry.turned.kept (arrivals_in run q) (sound.lawful.fit q w.signs));
-        late = writable_list 256 _ txs (distinct_prefix w.entry.turned.kept (arrivals_in run q) (sound.lawful.distinct q w.signs)) (All-take FitsTx w.entry.turned.kept (arrivals_in run q) (sound.lawful.fit q w.signs));
+        fresh = writable_list 128 _ txs (distinct_prefix w.entry.turned.kept (arrivals_in run q) (sound.lawful.distinct q w.signs))
+            (All-take FitsTx w.entry.turned.kept (arrivals_in run q) (sound.lawful.fit q w.signs));
+        late = writable_list 256 _ txs (distinct_prefix w.entry.turned.kept (arrivals_in run q) (sound.lawful.distinct q w.signs))
+            (All-take FitsTx w.entry.turned.kept (arrivals_in run q) (sound.lawful.fit q w.signs));
         seal = omega arith;
       } in
       same_order order drawn writable can (w.drawn.spelled ∙ ap order_spelling named)
 
   -- If its parent has this chain, it is drawn over it.
   drawn_over : (q : ℕ) (order : LocalOrder) → IsWritableOrder (bare order) → (w : WasDrawn q order) → (d : Digest) → order.parent ≡ d → (over : List Named)
-      → ((p : Named) → block_at (stored (map shown (up_to w.before w.entry))) d ≡ Some p → chain_at (up_to w.before w.entry) d ≡ over) → IsDrawnOver s (orders_of over) (arrivals_in run q) order
+      → ((p : Named) → block_at (stored (map shown (up_to w.before w.entry))) d ≡ Some p → chain_at (up_to w.before w.entry) d ≡ over)
+      → IsDrawnOver s (orders_of over) (arrivals_in run q) order
   drawn_over q order writable w d parent over chains =
       let prefix : List Entry = up_to w.before w.entry in
       let at_parent = some_of (block_at (stored (map shown prefix)) d)
@@ -129,15 +136,20 @@ module _ (laws : Laws) (fits : Check) (run : RunRecord) (sound : IsSound fits ru
         is = order_is q order writable w ∙ ap (order_drawn order.replica order.view order.parent (take w.entry.turned.kept (arrivals_in run q))) standing;
       }
 
-  honest_over : (b : Block) (over : List Named) → IsCarriedOver b over → (sealed : SealedOrder) → Contains b.orders sealed → IsHonestOver s (faulty_in run) (arrivals_in run) (orders_of over) sealed.order
+  honest_over : (b : Block) (over : List Named) → IsCarriedOver b over → (sealed : SealedOrder) → Contains b.orders sealed
+      → IsHonestOver s (faulty_in run) (arrivals_in run) (orders_of over) sealed.order
   honest_over b over t sealed inside correct =
       let order : LocalOrder = sealed.order in
-      let signs : IsHonest run order.replica = record { below = All-contains (λ o. o.order.replica < s.n) b.orders sealed t.valid.replicas inside; correct = correct } in
-      let has = was_sealed_by fits run sound.unforged t.replica t.entry t.message (order_part sealed) t.honest t.inside t.delivered (order_stands t.message b t.brings sealed inside) signs
+      let signs : IsHonest run order.replica =
+      record { below = All-contains (λ o. o.order.replica < s.n) b.orders sealed t.valid.replicas inside; correct = correct } in
+      let has = was_sealed_by fits run sound.unforged t.replica t.entry t.message (order_part sealed) t.honest t.inside t.delivered
+      (order_stands t.message b t.brings sealed inside) signs
       (All-contains (λ o. is_sealed fits o ≡ true) b.orders sealed t.valid.seals inside) in
       let writable = bare_is_writable sealed (All-contains IsWritableOrder b.orders sealed (All-from_recursion IsWritableOrder b.orders t.shape.each) inside) in
       let w = was_drawn order.replica signs order has in
-      drawn_over order.replica order writable w b.cert.block (All-contains (λ o. o.order.parent ≡ b.cert.block) b.orders sealed t.valid.parents inside) over (t.others (up_to w.before w.entry) w.is_prefix)
+      drawn_over order.replica order writable w b.cert.block
+      (All-contains (λ o. o.order.parent ≡ b.cert.block) b.orders sealed t.valid.parents inside) over
+      (t.others (up_to w.before w.entry) w.is_prefix)
 
   block_over : (b : Block) (over : List Named) → IsCarriedOver b over → IsBlockOver s (faulty_in run) (arrivals_in run) (orders_of over) b.orders
   block_over b over t = record {
@@ -148,7 +160,8 @@ module _ (laws : Laws) (fits : Check) (run : RunRecord) (sound : IsSound fits ru
     };
     short = All-weaker IsWritableOrder (λ (o : SealedOrder). IsShort o.order) (λ o w. record { fresh = w.fresh.few; late = w.late.few }) b.orders
         (All-from_recursion IsWritableOrder b.orders t.shape.each);
-    fit = subst (λ (c : Standings). All (λ (o : SealedOrder). fits_chain c o.order ≡ true) b.orders) (standing_is laws fits run sound t.before b.cert.block over t.own) t.valid.lists;
+    fit = subst (λ (c : Standings). All (λ (o : SealedOrder). fits_chain c o.order ≡ true) b.orders)
+        (standing_is laws fits run sound t.before b.cert.block over t.own) t.valid.lists;
     honest = all_from (λ (o : SealedOrder). IsHonestOver s (faulty_in run) (arrivals_in run) (orders_of over) o.order) b.orders (honest_over b over t);
   }
 
@@ -159,13 +172,15 @@ module _ (laws : Laws) (fits : Check) (run : RunRecord) (sound : IsSound fits ru
       let journal : List Entry = journal_in run r in
       let all : IsHonestPrefix laws fits run sound journal = whole_prefix laws fits run sound r honest in
       let stands = stands_after laws fits run sound r honest before after n is in
-      let was = was_carried (scale_of fits run r) journal (sound.lawful.obeys r honest).journal (sound.lawful.reported r honest) journal [] (sym (append-nil journal)) stands.entry n stands.inside stands.done stands.carries in
+      let was = was_carried (scale_of fits run r) journal (sound.lawful.obeys r honest).journal (sound.lawful.reported r honest) journal []
+      (sym (append-nil journal)) stands.entry n stands.inside stands.done stands.carries in
       let b : Block = was.brings.block in
       let d : Digest = b.cert.block in
       let parent = was.plainly.parent in
       let digest : stands.parent.digest ≡ d = stands.digest ∙ ap (λ (m : Named). m.cert.block) (sym was.brings.same) in
       let own : chain_at was.before d ≡ before =
-      chain_at_is laws fits run sound was.before journal (record { replica = r; honest = honest; rest = was.entry ∷ was.after; is = was.is }) all d parent.1 stands.parent
+      chain_at_is laws fits run sound was.before journal
+      (record { replica = r; honest = honest; rest = was.entry ∷ was.after; is = was.is }) all d parent.1 stands.parent
       (in_any (λ m. (m.digest ≡ d) × (m.view ≡ b.cert.view)) (stored (map shown was.before)) parent) parent.4.0 stands.is_stored digest
       ∙ stands.chain_before in (
         b,

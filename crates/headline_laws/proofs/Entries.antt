@@ -107,7 +107,8 @@ module _ (fits : Check) (run : RunRecord) (unforged : ¬ IsForged fits run) wher
             forged = record {
               honest = signs;
               fits = fit;
-              never = λ has. (let some : was_sealed run.journals p.signer p.statement ≡ true = sealed_holds run p.signer p.statement has in let never : true ≡ false = sym some ∙ not_so in cc);
+              never = λ has. (let some : was_sealed run.journals p.signer p.statement ≡ true = sealed_holds run p.signer p.statement has in
+                  let never : true ≡ false = sym some ∙ not_so in cc);
             };
           },
         ))

@@ -34,13 +34,16 @@ use Rattle.headline_laws.proofs.Plain.{plain, plainly_honest, plainly_sound}
 
 -- the laws of the crates below
 pub record Laws : Type 0 where
-  pub agreed : (s : Parameters) (x : Record) (prefix other : List Plain) → IsValid s → IsPlainlySound s x → IsJournalPrefix s x prefix → IsJournalPrefix s x other
-      → ((more : List Named) × (committed_chain s prefix ≡ committed_chain s other ++ more)) ⊎ ((more : List Named) × (committed_chain s other ≡ committed_chain s prefix ++ more))
+  pub agreed : (s : Parameters) (x : Record) (prefix other : List Plain) → IsValid s → IsPlainlySound s x → IsJournalPrefix s x prefix
+      → IsJournalPrefix s x other
+      → ((more : List Named) × (committed_chain s prefix ≡ committed_chain s other ++ more))
+      ⊎ ((more : List Named) × (committed_chain s other ≡ committed_chain s prefix ++ more))
   pub kept : (s : Parameters) (x : Record) (prefix : List Plain) → IsPlainlySound s x → IsJournalPrefix s x prefix → IsKeptPrefix s prefix
   pub commits : (s : Parameters) (prefix : List Plain) → Contains (stored prefix) (commit s prefix)
   pub parents : (s : Parameters) (prefix : List Plain) (end b : Named) (before after : List Named) → IsKeptPrefix s prefix → Contains (stored prefix) end
       → chain (stored prefix) end ≡ before ++ b ∷ after → StandsAfter prefix before b
-  pub one_chain : (s : Parameters) (x : Record) (prefix other : List Plain) (b c : Named) → IsPlainlySound s x → IsJournalPrefix s x prefix → IsJournalPrefix s x other
+  pub one_chain : (s : Parameters) (x : Record) (prefix other : List Plain) (b c : Named) → IsPlainlySound s x → IsJournalPrefix s x prefix
+      → IsJournalPrefix s x other
       → Contains (stored prefix) b → Contains (stored other) c → b.digest ≡ c.digest → (b ≡ c) × (chain (stored prefix) b ≡ chain (stored other) c)
   pub spelled : (m n : Message) → IsWritable m → IsWritable n → message_spelling m ≡ message_spelling n → m ≡ n
   pub replica : (order : LocalOrder) → order.replica < 256 → replica_named (order_spelling order) ≡ order.replica
@@ -78,13 +81,16 @@ module _ (laws : Laws) (fits : Check) (run : RunRecord) (sound : IsSound fits ru
 
   -- A digest has one chain, in all prefixes of honest journals that store its block.
   pub chain_at_is : (prefix other : List Entry) → IsHonestPrefix prefix → IsHonestPrefix other → (d : Digest) (b c : Named)
-      → Contains (stored (map shown prefix)) b → b.digest ≡ d → Contains (stored (map shown other)) c → c.digest ≡ d → chain_at prefix d ≡ chain (stored (map shown other)) c
+      → Contains (stored (map shown prefix)) b → b.digest ≡ d → Contains (stored (map shown other)) c → c.digest ≡ d
+      → chain_at prefix d ≡ chain (stored (map shown other)) c
   chain_at_is prefix other t u d b c inside is there same =
       let alone = at_digest (stored (map shown prefix)) b inside
-      (λ e further like. (laws.one_chain s (plain run) (map shown prefix) (map shown prefix) e b (plainly_sound fits run sound) (is_prefix prefix t) (is_prefix prefix t) further inside like).0) in
+      (λ e further like. (laws.one_chain s (plain run) (map shown prefix) (map shown prefix) e b (plainly_sound fits run sound)
+      (is_prefix prefix t) (is_prefix prefix t) further inside like).0) in
       let found : block_at (stored (map shown prefix)) d ≡ Some b = subst (λ (e : Digest). block_at (stored (map shown prefix)) e ≡ Some b) is alone in
       ap (λ (o : Option Named). option_map_or (chain (stored (map shown prefix))) o []) found
-      ∙ (laws.one_chain s (plain run) (map shown prefix) (map shown other) b c (plainly_sound fits run sound) (is_prefix prefix t) (is_prefix other u) inside there (is ∙ sym same)).1
+      ∙ (laws.one_chain s (plain run) (map shown prefix) (map shown other) b c (plainly_sound fits run sound) (is_prefix prefix t)
+      (is_prefix other u) inside there (is ∙ sym same)).1
 
   -- its chain state
   pub standing_is : (prefix : List Entry) (d : Digest) (over : List Named) → chain_at prefix d ≡ over → standing_at s prefix d ≡ standing_of s (orders_of over)
@@ -101,7 +107,8 @@ module _ (laws : Laws) (fits : Check) (run : RunRecord) (sound : IsSound fits ru
   -- The batches are the final list of the committed chain.
   pub batches_are : (r : ℕ) → IsHonest run r → batches_in run r ≡ final_list s (committed_in run r)
   batches_are r honest =
-      (sound.lawful.obeys r honest).list ∙ ap (λ (bs : List BlockLists). finals (standing_for s bs)) (lists_are (committed_chain s (map shown (journal_in run r))))
+      (sound.lawful.obeys r honest).list
+      ∙ ap (λ (bs : List BlockLists). finals (standing_for s bs)) (lists_are (committed_chain s (map shown (journal_in run r))))
 
   begins : (i j : ℕ) → (more : List Named) → committed_chain s (map shown (journal_in run j)) ≡ committed_chain s (map shown (journal_in run i)) ++ more
       → IsChainPrefix (committed_in run i) (committed_in run j)

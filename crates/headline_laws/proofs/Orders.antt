@@ -20,23 +20,28 @@ use Rattle.run_verdict.specs.Parts.{order_part, cert_parts, block_parts, parts_o
 use Rattle.headline_laws.proofs.Entries.{image_inside}
 
 -- ascending keys are distinct
-pub ascending_keys : {X : Type 0} (key : X → ℕ) (least : ℕ) (xs : List X) → RisesFrom key least xs → All (λ k. least ≤ k) (map key xs) × AllPairs (λ a b. a ≢ b) (map key xs)
+pub ascending_keys : {X : Type 0} (key : X → ℕ) (least : ℕ) (xs : List X) → RisesFrom key least xs
+    → All (λ k. least ≤ k) (map key xs) × AllPairs (λ a b. a ≢ b) (map key xs)
 ascending_keys key least [] rises = (All-nil (λ k. least ≤ k), λ i j d less inside. absurd (omega (arith, inside)))
 ascending_keys key least (x ∷ xs) (over, rises) =
     let rest = ascending_keys key (key x + 1) xs rises in (
-      All-cons (λ k. least ≤ k) (key x) (map key xs) over (All-weaker (λ k. key x + 1 ≤ k) (λ k. least ≤ k) (λ k above. omega (arith, above, over)) (map key xs) rest.0),
-      AllPairs-cons (λ a b. a ≢ b) (key x) (map key xs) (All-weaker (λ k. key x + 1 ≤ k) (λ k. key x ≢ k) (λ k above same. absurd (omega (arith, above, same))) (map key xs) rest.0) rest.1,
+      All-cons (λ k. least ≤ k) (key x) (map key xs) over
+          (All-weaker (λ k. key x + 1 ≤ k) (λ k. least ≤ k) (λ k above. omega (arith, above, over)) (map key xs) rest.0),
+      AllPairs-cons (λ a b. a ≢ b) (key x) (map key xs)
+          (All-weaker (λ k. key x + 1 ≤ k) (λ k. key x ≢ k) (λ k above same. absurd (omega (arith, above, same))) (map key xs) rest.0) rest.1,
     )
 
 -- a block's orders are parts of the message that delivers it
-pub order_stands : (m : MessageView) (b : Block) → block_in m ≡ Some b → (sealed : SealedOrder) → Contains b.orders sealed → Contains (parts_of m) (order_part sealed)
+pub order_stands : (m : MessageView) (b : Block) → block_in m ≡ Some b → (sealed : SealedOrder) → Contains b.orders sealed
+    → Contains (parts_of m) (order_part sealed)
 order_stands (NewView call) b found sealed inside = absurd (none-some b found)
 order_stands (Ask call) b found sealed inside = absurd (none-some b found)
 order_stands (Order own) b found sealed inside = absurd (none-some b found)
 order_stands (Propose proposed) b found sealed inside =
     let orders : Contains proposed.block.orders sealed = subst (λ (c : Block). Contains c.orders sealed) (sym (same_Some proposed.block b found)) inside in
     Contains-append_left (block_parts proposed.block) _ (order_part sealed)
-    (Contains-append_right (cert_parts proposed.block.cert) (map order_part proposed.block.orders) (order_part sealed) (image_inside order_part proposed.block.orders sealed orders))
+    (Contains-append_right (cert_parts proposed.block.cert) (map order_part proposed.block.orders) (order_part sealed)
+    (image_inside order_part proposed.block.orders sealed orders))
 order_stands (Vote voted) b found sealed inside = absurd (none-some b found)
 order_stands (Fetch digest) b found sealed inside = absurd (none-some b found)
 order_stands (Give block) b found sealed inside =
@@ -59,11 +64,14 @@ each_fits (t ∷ txs) all = (All-head FitsTx t txs all, each_fits txs (All-tail 
 pub distinct_prefix : (n : ℕ) (txs : List Tx) → AreDistinct txs → AreDistinct (take n txs)
 distinct_prefix n txs distinct i j d less inside =
     let short : length (take n txs) ≡ min n (length txs) = length-take n txs in
-    rw (get_or-take n txs i d (omega (arith, less, inside, short)), get_or-take n txs j d (omega (arith, inside, short))) (distinct i j d less (omega (arith, inside, short)))
+    rw (get_or-take n txs i d (omega (arith, less, inside, short)), get_or-take n txs j d (omega (arith, inside, short)))
+    (distinct i j d less (omega (arith, inside, short)))
 
 pub writable_list : (most : ℕ) (wanted : Tx → Bool) (txs : List Tx) → AreDistinct txs → All FitsTx txs → IsWritableList most (take most (filter wanted txs))
 writable_list most wanted txs distinct all = record {
-  few = (let short : length (take most (filter wanted txs)) ≡ min most (length (filter wanted txs)) = length-take most (filter wanted txs) in omega (arith, short));
+  few =
+      (let short : length (take most (filter wanted txs)) ≡ min most (length (filter wanted txs)) =
+      length-take most (filter wanted txs) in omega (arith, short));
   distinct = distinct_prefix most (filter wanted txs) (AllPairs-filter (λ u v. u ≢ v) wanted txs distinct);
   each = each_fits (take most (filter wanted txs)) (All-take FitsTx most (filter wanted txs) (All-filter wanted FitsTx txs all));
 }

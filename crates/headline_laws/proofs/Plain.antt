@@ -53,7 +53,8 @@ module _ (fits : Check) (run : RunRecord) (sound : IsSound fits run) where
 
   -- a vote that was delivered, and whose seal fits, was sealed by its honest replica
   vote_sealed : (i : ℕ) (e : Entry) (m : MessageView) → IsHonest run i → Contains (journal_in run i) e → message_in e.event ≡ Some m
-      → (r view : ℕ) (d : Digest) (seal : List ℕ) → Contains (parts_of m) (part r (vote_spelling r view d) seal) → IsHonest run r → fits r (vote_spelling r view d) seal ≡ true
+      → (r view : ℕ) (d : Digest) (seal : List ℕ) → Contains (parts_of m) (part r (vote_spelling r view d) seal) → IsHonest run r
+      → fits r (vote_spelling r view d) seal ≡ true
       → view < 2 ^ 32 → Contains (sealed_in (map shown (journal_in run r))) (ballot view d)
   vote_sealed i e m receives inside is r view d seal among signs fit small =
       let has = was_sealed_by fits run sound.unforged i e m (part r (vote_spelling r view d) seal) receives inside is among signs fit in
@@ -81,7 +82,8 @@ module _ (fits : Check) (run : RunRecord) (sound : IsSound fits run) where
     ]
 
   -- an honest vote in a message that an honest replica accepted
-  carried : (i : ℕ) (e : Entry) → IsHonest run i → Contains (journal_in run i) e → (before : List Entry) → ((d : Digest) (view : ℕ) → IsStored (map shown before) d view → view < 2 ^ 32)
+  carried : (i : ℕ) (e : Entry) → IsHonest run i → Contains (journal_in run i) e → (before : List Entry)
+      → ((d : Digest) (view : ℕ) → IsStored (map shown before) d view → view < 2 ^ 32)
       → (o : Option MessageView) → message_in e.event ≡ o → MayBeDone (scale_of fits run i) before o → MayBeDonePlainly s (map shown before) (shown_message o)
       → (r : ℕ) (v : Ballot) → IsHonest run r → Carries (shown_message o) r v → Contains (sealed_in (map shown (journal_in run r))) v
   carried i e receives inside before small None is done plainly r v signs carries = absurd carries
@@ -98,7 +100,8 @@ module _ (fits : Check) (run : RunRecord) (sound : IsSound fits run) where
       (λ p within. Contains-append_left (block_parts b) _ p (Contains-append_left (cert_parts b.cert) (map order_part b.orders) p within))
       (small b.cert.block b.cert.view plainly.parent) r v carries signs
   carried i e receives inside before small (Some (Vote voted)) is done plainly r v signs (own, same) =
-      let sealed : (q : ℕ) → voted.vote.replica ≡ q → IsHonest run q → Contains (sealed_in (map shown (journal_in run q))) (ballot voted.vote.view voted.vote.block) =
+      let sealed : (q : ℕ) → voted.vote.replica ≡ q → IsHonest run q
+      → Contains (sealed_in (map shown (journal_in run q))) (ballot voted.vote.view voted.vote.block) =
       λ q mine honest. subst (λ (w : ℕ). Contains (sealed_in (map shown (journal_in run w))) (ballot voted.vote.view voted.vote.block)) mine
       (vote_sealed i e (Vote voted) receives inside is voted.vote.replica voted.vote.view voted.vote.block voted.vote.seal
       (0, (omega arith), refl) (subst (IsHonest run) (sym mine) honest) done.1 (small voted.vote.block voted.vote.view plainly.1)) in
@@ -114,9 +117,11 @@ module _ (fits : Check) (run : RunRecord) (sound : IsSound fits run) where
       let lawful = (sound.lawful.obeys i honest).journal in
       let real = shown_by (journal_in run i) p inside in
       let split = real.split in
-      let was = was_done (scale_of fits run i) (journal_in run i) lawful (sound.lawful.reported i honest) split.before real.entry split.after split.is (ap (λ (q : Plain). q.is_done) real.same ∙ done) in
+      let was = was_done (scale_of fits run i) (journal_in run i) lawful
+      (sound.lawful.reported i honest) split.before real.entry split.after split.is (ap (λ (q : Plain). q.is_done) real.same ∙ done) in
       carried i real.entry honest (subst (λ (es : List Entry). Contains es real.entry) (sym split.is) (at_split split.before real.entry split.after))
-      split.before (view_is_small (scale_of fits run i) (journal_in run i) lawful (sound.lawful.reported i honest) split.before (real.entry ∷ split.after) split.is)
+      split.before (view_is_small (scale_of fits run i) (journal_in run i) lawful (sound.lawful.reported i honest) split.before
+      (real.entry ∷ split.after) split.is)
       (message_in real.entry.event) refl was.done was.plainly r v (truly_honest run r signs)
       (subst (λ (q : Plain). Carries q.message r v) (sym real.same) carries)
 
@@ -132,7 +137,8 @@ module _ (fits : Check) (run : RunRecord) (sound : IsSound fits run) where
       → (r : ℕ) × (r < n) × (faulty_in run r ≡ false) × Source (λ (p : Plain). block_of p.message) (map shown (journal_in run r)) b
   delivered_by zero b inside = absurd (none_inside b inside)
   delivered_by (suc n) b inside =
-      elim (Contains-append_cases (delivered n (plain run)) (cond (faulty_in run n) [] (filter_map (λ (p : Plain). block_of p.message) (map shown (journal_in run n)))) b inside) [
+      elim (Contains-append_cases (delivered n (plain run))
+      (cond (faulty_in run n) [] (filter_map (λ (p : Plain). block_of p.message) (map shown (journal_in run n)))) b inside) [
         | inl before ↦ let rest = delivered_by n b before in (rest.0, (omega (arith, rest.1)), rest.2, rest.3)
         | inr own ↦ by (faulty_in run n) refl own
       ]
@@ -150,13 +156,15 @@ module _ (fits : Check) (run : RunRecord) (sound : IsSound fits run) where
       let real = shown_by (journal_in run r) from.3.item from.3.inside in
       let found = brings (message_in real.entry.event) b (ap (λ (p : Plain). block_of p.message) real.same ∙ from.3.gives) in
       let split = real.split in
-      let entry = has_entry run r real.entry honest (subst (λ (es : List Entry). Contains es real.entry) (sym split.is) (at_split split.before real.entry split.after)) in
+      let entry = has_entry run r real.entry honest
+      (subst (λ (es : List Entry). Contains es real.entry) (sym split.is) (at_split split.before real.entry split.after)) in
       record {
         block = found.block;
         same = found.same;
         place = received r entry.0 found.block;
         is = refl;
-        holds = record { entry = real.entry; message = found.message; has = entry.1; delivers = delivers real.entry found.message found.is; brings = found.brings };
+        holds =
+            record { entry = real.entry; message = found.message; has = entry.1; delivers = delivers real.entry found.message found.is; brings = found.brings };
       }
 
   one_block : (a b : Named) → Contains (delivered s.n (plain run)) a → Contains (delivered s.n (plain run)) b → a.digest ≡ b.digest → a ≡ b

@@ -27,7 +27,8 @@ use Rattle.headline_laws.proofs.Plain.{plain, plainly_honest, plainly_sound}
 abbrev pub ListsGrow : Type 0
 ListsGrow = (s : Parameters) (chain more : Chain) → (rest : List (List Tx)) × (final_list s (chain ++ more) ≡ final_list s chain ++ rest)
 
-module _ (laws : Laws) (grow : ListsGrow) (moves : MovesAsSeen) (fits : Check) (run : RunRecord) (sound : IsSound fits run) (r : ℕ) (honest : IsHonest run r) where
+module _ (laws : Laws) (grow : ListsGrow) (moves : MovesAsSeen) (fits : Check) (run : RunRecord) (sound : IsSound fits run) (r : ℕ)
+    (honest : IsHonest run r) where
   abbrev s : Parameters
   s = run.setting
 

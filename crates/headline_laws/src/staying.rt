@@ -21,7 +21,8 @@ use wire_view::no_bytes_spell_two_messages;
 /// block of a greater view, whichever that is: that this block extends the last one rests on agreement, and so on the same
 /// premise as the headline.
 pub fn final_batches_stay()
-    ensures { (fits : Check) (run : RunRecord) (r : ℕ) (before more after : List Entry) → IsSound fits run → IsHonest run r → journal_in run r ≡ (before ++ more) ++ after
+    ensures { (fits : Check) (run : RunRecord) (r : ℕ) (before more after : List Entry) → IsSound fits run → IsHonest run r
+        → journal_in run r ≡ (before ++ more) ++ after
         → Begins (finals_of run.setting before) (finals_of run.setting (before ++ more)) }
 {
     committed_chains_agree();

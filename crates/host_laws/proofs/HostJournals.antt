@@ -21,7 +21,8 @@ turns_of laws secret steps host role run is = by (good_run laws secret steps hos
     by (inl new) = subst (λ (h : Host). h.journal ≡ turns_on secret role (events_in h.journal)) (sym new) refl
     by (inr s) = subst (λ (r : Role). host.journal ≡ turns_on secret r (events_in host.journal)) (same_Some s.role role (sym s.role_is ∙ is)) s.is_of.turns
 
-pub lawful_journal : (laws : LogLaws) (nodes : NodeLaws) (secret : Secret) (steps : List (Deed × Host)) (host : Host) (role : Role) → IsHostRun secret steps host
+pub lawful_journal : (laws : LogLaws) (nodes : NodeLaws) (secret : Secret) (steps : List (Deed × Host)) (host : Host) (role : Role)
+    → IsHostRun secret steps host
     → host.role ≡ Some role
     → IsValid role.setting → IsFed role.setting.n host → IsLawful (scale_for role host) host.journal
 lawful_journal laws nodes secret steps host role run is valid fed =

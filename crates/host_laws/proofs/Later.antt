@@ -59,7 +59,8 @@ none_before : (a b : List Entry) → IsPrefixOf a b → b ≡ [] → a ≡ []
 none_before [] b prefix none = refl
 none_before (e ∷ a) b prefix none = absurd (let clash : e ∷ (a ++ prefix.more) ≡ [] = sym prefix.is ∙ none in cc)
 
-pub lead_keeps_role : (laws : LogLaws) (secret : Secret) (old : Host) (steps : List (Deed × Host)) (last : Host) → IsGood secret old → Lead secret old steps last
+pub lead_keeps_role : (laws : LogLaws) (secret : Secret) (old : Host) (steps : List (Deed × Host)) (last : Host) → IsGood secret old
+    → Lead secret old steps last
     → (old.journal ≡ []) ⊎ (last.role ≡ old.role)
 lead_keeps_role laws secret old [] last good is = inr (ap (λ (h : Host). h.role) is)
 lead_keeps_role laws secret old (step ∷ steps) last good lead = elim (keeps_role laws secret step.0 old step.1 good lead.0) [

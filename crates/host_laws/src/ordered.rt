@@ -11,7 +11,8 @@ use headline_laws::{final_batches_stay, the_headline_holds};
 /// of their turns shows no forged seal and no two blocks with the same digest.
 pub fn hosted_replicas_are_ordered()
     // Then the headline holds of the batches that their replicas gave last.
-    ensures ordered { (common : Common) (faulty : List ℕ) (hosts : List Host) → AreSoundlyHosted common faulty hosts → IsOrdered (hosted_run common.setting faulty hosts) }
+    ensures ordered { (common : Common) (faulty : List ℕ) (hosts : List Host) → AreSoundlyHosted common faulty hosts
+        → IsOrdered (hosted_run common.setting faulty hosts) }
     // And what an honest replica gave at an earlier moment of its run is a prefix of it, also from before a crash.
     ensures stay { (common : Common) (faulty : List ℕ) (hosts : List Host) (earlier later : Host) → AreSoundlyHosted common faulty hosts
         → AreMoments common faulty hosts earlier later → Begins earlier.batches later.batches }

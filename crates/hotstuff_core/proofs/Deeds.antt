@@ -22,7 +22,8 @@ use Rattle.hotstuff_core.proofs.Stores.{stored_if_viewed, safe_meets_rule, lock_
 
 -- what holds of blocks stored by their digests
 pub record FromStores : Type 0 where
-  pub by_steps : (store : List Block) (child ancestor : Digest) → IsStore store → is_stored store child ≡ true → extends store child ancestor ≡ true → Extends store child ancestor
+  pub by_steps : (store : List Block) (child ancestor : Digest) → IsStore store → is_stored store child ≡ true
+      → extends store child ancestor ≡ true → Extends store child ancestor
   pub parents : (store : List Block) (digest parent : Digest) → IsStore store → parent_of store digest ≡ Some parent → is_stored store parent ≡ true
 
 abbrev steps_of : List Deed → List (Step Digest)
@@ -51,7 +52,8 @@ module _ (known : FromStores) (later : List Block) (none : parent_of later first
       by : (t : Bool) → digest_eq (block_digest block) first_digest ≡ t
           → unwrap_or (cond t (Some 0) (option_map (λ b. b.view) (block_at later (block_digest block)))) 0 ≡ block.view
       by true first =
-          let is_none : parent_of later (block_digest block) ≡ None = ap (parent_of later) ((digest_eq_decides (block_digest block) first_digest).0 first) ∙ none in
+          let is_none : parent_of later (block_digest block) ≡ None =
+          ap (parent_of later) ((digest_eq_decides (block_digest block) first_digest).0 first) ∙ none in
           absurd (cc (is_none, parent_is block stored))
       by false other = ap (λ (o : Option Block). unwrap_or (option_map (λ (b : Block). b.view) o) 0) stored
 
@@ -107,6 +109,7 @@ module _ (known : FromStores) (later : List Block) (none : parent_of later first
     own_view = views_are_own s deeds are;
     ascending = views_rise s deeds are;
     by_rule = meet_rule s deeds are;
-    lock_kept = subst (λ (vs : List (Vote Digest)). AllPairs (λ earlier later. (g : Digest) → IsAncestor reported 2 earlier.block g → reported.view g ≤ reported.view later.lock) vs)
+    lock_kept = subst (λ (vs : List (Vote Digest)).
+        AllPairs (λ earlier later. (g : Digest) → IsAncestor reported 2 earlier.block g → reported.view g ≤ reported.view later.lock) vs)
         (sym (same_votes s deeds are)) (locks_kept reported s.lock (steps_of deeds));
   }

@@ -51,7 +51,8 @@ module _ (store later : List Block) (grows : IsLater store later) where
   view_of_later : (d : Digest) (v : ℕ) → view_of store d ≡ Some v → view_of later d ≡ Some v
   view_of_later d v of = by (digest_eq d first_digest) of
     where
-      by : (t : Bool) → cond t (Some 0) (option_map (λ b. b.view) (block_at store d)) ≡ Some v → cond t (Some 0) (option_map (λ b. b.view) (block_at later d)) ≡ Some v
+      by : (t : Bool) → cond t (Some 0) (option_map (λ b. b.view) (block_at store d)) ≡ Some v
+          → cond t (Some 0) (option_map (λ b. b.view) (block_at later d)) ≡ Some v
       by true is = is
       by false is =
           let x = mapped (λ (b : Block). b.view) (block_at store d) v is in
@@ -82,7 +83,8 @@ module _ (store later : List Block) (grows : IsLater store later) where
     safe_meets_rule s b lock parent stored steps safe = elim (or_cases (nat_lt (view_at store s.lock) b.cert.view) _ safe) [
       | inl above ↦
           let less : view_at store s.lock < b.cert.view = ltb-true (view_at store s.lock) b.cert.view above in
-          let higher_parent : view_at later s.lock < view_at later b.cert.block = omega (arith, less, view_later s.lock lock, view_is_later b.cert.block b.cert.view parent) in
+          let higher_parent : view_at later s.lock < view_at later b.cert.block =
+          omega (arith, less, view_later s.lock lock, view_is_later b.cert.block b.cert.view parent) in
           inr (b.cert.block, parent_is, higher_parent)
       | inr extends_or_is ↦ elim (or_cases (extends store b.cert.block s.lock) (is_at store s.lock b) extends_or_is) [
         | inl further ↦ let path = steps further in inl (suc path.0, (b.cert.block, parent_is, steps_later path.0 b.cert.block s.lock path.1))
@@ -112,14 +114,16 @@ module _ (store later : List Block) (grows : IsLater store later) where
           | inr found ↦ let x = there (block_at store block) found in absurd (cc (absent, x.1))
         ]
 
-        by : (o : Option Block) → block_at store block ≡ o → unwrap_or (moved store lock (parent_of store block)) lock ≡ lock_after (history_in later faulty votes) lock (Some block)
+        by : (o : Option Block) → block_at store block ≡ o
+            → unwrap_or (moved store lock (parent_of store block)) lock ≡ lock_after (history_in later faulty votes) lock (Some block)
         by None absent =
             let here : parent_of store block ≡ None = ap (option_map (λ (x : Block). x.cert.block)) absent in
             rw (here, at_first absent) refl
         by (Some x) found =
             let p = x.cert.block in
             let here : parent_of store block ≡ Some p = ap (option_map (λ (x : Block). x.cert.block)) found in
-            rw (here, parent_later block p here, view_later lock stored, view_later p (parents p here)) (unwrap_cond (nat_lt (view_at store lock) (view_at store p)) p lock)
+            rw (here, parent_later block p here, view_later lock stored, view_later p (parents p here))
+            (unwrap_cond (nat_lt (view_at store lock) (view_at store p)) p lock)
 
     -- A block that is committed is the head of a three-chain that ends with the block seen.
     pub commit_is_head : (s : State) (v : ℕ) (block g : Digest) → view_of store block ≡ Some v
@@ -127,7 +131,8 @@ module _ (store later : List Block) (grows : IsLater store later) where
         → (p : Digest) × IsThreeChain (history_in later faulty votes) g p block
     commit_is_head s v block g of parents commits = by_parent (parent_of store block) refl commits
       where
-        by_test : (p head : Digest) → parent_of store block ≡ Some p → parent_of store p ≡ Some head → (t : Bool) → (is_next (view_at store p) v && is_next (view_at store head) (view_at store p)) ≡ t
+        by_test : (p head : Digest) → parent_of store block ≡ Some p → parent_of store p ≡ Some head → (t : Bool)
+            → (is_next (view_at store p) v && is_next (view_at store head) (view_at store p)) ≡ t
             → moved store s.committed (cond t (Some head) None) ≡ Some g → (p : Digest) × IsThreeChain (history_in later faulty votes) g p block
         by_test p head parent grandparent true next is = by_views (nat_lt (view_at store s.committed) (view_at store head)) is
           where
@@ -154,9 +159,11 @@ module _ (store later : List Block) (grows : IsLater store later) where
         by_head : (p : Digest) → parent_of store block ≡ Some p → (o : Option Digest) → parent_of store p ≡ o
             → moved store s.committed (option_and_then (head_if store v p) o) ≡ Some g → (p : Digest) × IsThreeChain (history_in later faulty votes) g p block
         by_head p parent None grandparent is = absurd (cc)
-        by_head p parent (Some head) grandparent is = by_test p head parent grandparent (is_next (view_at store p) v && is_next (view_at store head) (view_at store p)) refl is
+        by_head p parent (Some head) grandparent is =
+            by_test p head parent grandparent (is_next (view_at store p) v && is_next (view_at store head) (view_at store p)) refl is
 
-        by_parent : (o : Option Digest) → parent_of store block ≡ o → moved store s.committed (option_and_then (λ p. option_and_then (head_if store v p) (parent_of store p)) o) ≡ Some g
+        by_parent : (o : Option Digest) → parent_of store block ≡ o
+            → moved store s.committed (option_and_then (λ p. option_and_then (head_if store v p) (parent_of store p)) o) ≡ Some g
             → (p : Digest) × IsThreeChain (history_in later faulty votes) g p block
         by_parent None parent is = absurd (cc)
         by_parent (Some p) parent is = by_head p parent (parent_of store p) refl is

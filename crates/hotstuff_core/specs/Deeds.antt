@@ -52,7 +52,8 @@ AreByRules later s [] = ⊤
 AreByRules later s (Deed.Sees store view block ∷ deeds) =
     IsAt store later s × (view_of store block ≡ Some view) × AreByRules later (seen_in store view block s) deeds
 AreByRules later s (Deed.Votes store block ∷ deeds) =
-    IsAt store later s × (view_of store block.cert.block ≡ Some block.cert.view) × (block_at later (block_digest block) ≡ Some block) × (may_vote store s block ≡ true)
+    IsAt store later s × (view_of store block.cert.block ≡ Some block.cert.view) × (block_at later (block_digest block) ≡ Some block)
+    × (may_vote store s block ≡ true)
     × AreByRules later (after_vote store block s) deeds
 
 -- The facts of `IsLawfulHistory` on the votes of a single replica, without `above_lock`, and without those on the validity

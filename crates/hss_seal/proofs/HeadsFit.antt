@@ -7,13 +7,15 @@ use Rattle.hss_seal.specs.Heads.{head_fits}
 use Rattle.hss_seal.specs.Hss.{hss_fits, inner_key, levels_fit, lower_key_fits, message_fits}
 
 -- a signature fits where its head does, and its message
-pub parts_fit : (public message signature : List ℕ) → length public ≡ 60 → head_fits public signature && message_fits message signature ≡ hss_fits public message signature
+pub parts_fit : (public message signature : List ℕ) → length public ≡ 60
+    → head_fits public signature && message_fits message signature ≡ hss_fits public message signature
 unfolding hss_fits head_fits
 parts_fit public message signature long =
     rw (eq-eqb (length public) 60 long) (and_assoc (levels_fit public signature) (lower_key_fits public signature) (message_fits message signature))
 
 -- where the head is known to fit, the message decides
-pub message_decides : (public message signature : List ℕ) → length public ≡ 60 → head_fits public signature ≡ true → message_fits message signature ≡ hss_fits public message signature
+pub message_decides : (public message signature : List ℕ) → length public ≡ 60 → head_fits public signature ≡ true
+    → message_fits message signature ≡ hss_fits public message signature
 message_decides public message signature long known = rw known at (parts_fit public message signature long)
 
 -- a signature's head decides whether it has a good one
@@ -28,16 +30,19 @@ head_decides public signature =
     rw (levels, first, inner) refl
 
 -- the top tree's key, and what it signs
-pub lower_key_is : (public signature top inner : List ℕ) (first : Bool) → length public ≡ 60 → top ≡ slice_range public 4 60 → inner ≡ inner_key signature → first ≡ fits top inner (slice_range signature 4 2352)
+pub lower_key_is : (public signature top inner : List ℕ) (first : Bool) → length public ≡ 60 → top ≡ slice_range public 4 60
+    → inner ≡ inner_key signature → first ≡ fits top inner (slice_range signature 4 2352)
     → first ≡ lower_key_fits public signature
 lower_key_is public signature top inner first long et ei e =
     let rest : slice_range public 4 60 ≡ drop 4 public = take_all 56 (drop 4 public) (omega (arith, length-drop 4 public)) in
     e ∙ rw (et ∙ rest, ei) refl
 
 -- the lower tree's key, and what it signs
-pub message_is : (message signature inner : List ℕ) (second : Bool) → inner ≡ inner_key signature → second ≡ fits inner message (take (length signature - 2408) (drop 2408 signature))
+pub message_is : (message signature inner : List ℕ) (second : Bool) → inner ≡ inner_key signature
+    → second ≡ fits inner message (take (length signature - 2408) (drop 2408 signature))
     → second ≡ message_fits message signature
 unfolding message_fits
 message_is message signature inner second ei e =
-    let all : take (length signature - 2408) (drop 2408 signature) ≡ drop 2408 signature = take_all (length signature - 2408) (drop 2408 signature) (omega (arith, length-drop 2408 signature)) in
+    let all : take (length signature - 2408) (drop 2408 signature) ≡ drop 2408 signature =
+    take_all (length signature - 2408) (drop 2408 signature) (omega (arith, length-drop 2408 signature)) in
     e ∙ rw (ei, all) refl

@@ -8,7 +8,8 @@ use Rattle.hss_seal.specs.Lower.{Kept, kept_of}
 use Rattle.hss_seal.proofs.TwoFit.{seal_is}
 
 -- what was grown is what is kept of its number
-pub kept_stays : (seeds : Seeds) (lower : Height) (t : ℕ) (grown kept : Kept) → grown ≡ kept_of seeds lower t → grown ≡ kept → kept ≡ kept_of seeds lower kept.tree
+pub kept_stays : (seeds : Seeds) (lower : Height) (t : ℕ) (grown kept : Kept) → grown ≡ kept_of seeds lower t → grown ≡ kept
+    → kept ≡ kept_of seeds lower kept.tree
 kept_stays seeds lower t grown kept e one =
     let number : t ≡ kept.tree = sym (ap (λ (k : Kept). k.tree) (sym one ∙ e)) in
     sym one ∙ e ∙ ap (kept_of seeds lower) number

@@ -23,18 +23,22 @@ key_at f n r below =
     slice_get-get_or (map f (range_with_len 0 n)) r [] (omega (arith, length-map-range_with_len f 0 n))
     ∙ ap Some (get_or-map-range_with_len f 0 n r r [] below (omega arith))
 
-one_fits : (s : ℕ) (height : Height) (n r number : ℕ) (bytes : List ℕ) → r < n → publics_fit (lms_publics s height n) r bytes (key_seal (drawn_key s r height) number bytes) ≡ true
+one_fits : (s : ℕ) (height : Height) (n r number : ℕ) (bytes : List ℕ) → r < n
+    → publics_fit (lms_publics s height n) r bytes (key_seal (drawn_key s r height) number bytes) ≡ true
 one_fits s height n r number bytes below =
-    ap (λ (key : Option (List ℕ)). fits_under key bytes (key_seal (drawn_key s r height) number bytes)) (key_at (λ r. key_public (drawn_key s r height)) n r below)
+    ap (λ (key : Option (List ℕ)). fits_under key bytes (key_seal (drawn_key s r height) number bytes))
+    (key_at (λ r. key_public (drawn_key s r height)) n r below)
     ∙ one.seal_fits (drawn_key s r height) number bytes (one.drawn_is_key s r height)
 
 -- the identifier that is drawn has its 16 bytes
 pub drawn_long : (s r : ℕ) → length (drawn_id s r) ≡ 16
 drawn_long s r = (one.drawn_is_key s r H5).id
 
-two_fit : (s : ℕ) (height : Height) (n r number : ℕ) (bytes : List ℕ) → r < n → hss_publics_fit (hss_publics s n) r bytes (hss_seal_of (drawn_seeds s r) height number bytes) ≡ true
+two_fit : (s : ℕ) (height : Height) (n r number : ℕ) (bytes : List ℕ) → r < n
+    → hss_publics_fit (hss_publics s n) r bytes (hss_seal_of (drawn_seeds s r) height number bytes) ≡ true
 two_fit s height n r number bytes below =
-    ap (λ (key : Option (List ℕ)). hss_fits_under key bytes (hss_seal_of (drawn_seeds s r) height number bytes)) (key_at (λ r. hss_public (top_of (drawn_seeds s r))) n r below)
+    ap (λ (key : Option (List ℕ)). hss_fits_under key bytes (hss_seal_of (drawn_seeds s r) height number bytes))
+    (key_at (λ r. hss_public (top_of (drawn_seeds s r))) n r below)
     ∙ two.seal_fits (drawn_seeds s r) height number bytes (drawn_long s r)
 
 pub made_agree : (s : ℕ) (height : Height) (n r number : ℕ) (bytes : List ℕ) → r < n → made_fits s height n r bytes (made_gives s height r number bytes) ≡ true
@@ -48,10 +52,12 @@ no_key_at : (f : ℕ → List ℕ) (n r : ℕ) → n ≤ r → slice_get (map f 
 no_key_at f n r past = slice_get_past (map f (range_with_len 0 n)) r (omega (arith, length-map-range_with_len f 0 n))
 
 no_one_fits : (s : ℕ) (height : Height) (n r : ℕ) (bytes seal : List ℕ) → n ≤ r → publics_fit (lms_publics s height n) r bytes seal ≡ false
-no_one_fits s height n r bytes seal past = ap (λ (key : Option (List ℕ)). fits_under key bytes seal) (no_key_at (λ r. key_public (drawn_key s r height)) n r past)
+no_one_fits s height n r bytes seal past =
+    ap (λ (key : Option (List ℕ)). fits_under key bytes seal) (no_key_at (λ r. key_public (drawn_key s r height)) n r past)
 
 no_two_fit : (s n r : ℕ) (bytes seal : List ℕ) → n ≤ r → hss_publics_fit (hss_publics s n) r bytes seal ≡ false
-no_two_fit s n r bytes seal past = ap (λ (key : Option (List ℕ)). hss_fits_under key bytes seal) (no_key_at (λ r. hss_public (top_of (drawn_seeds s r))) n r past)
+no_two_fit s n r bytes seal past =
+    ap (λ (key : Option (List ℕ)). hss_fits_under key bytes seal) (no_key_at (λ r. hss_public (top_of (drawn_seeds s r))) n r past)
 
 pub made_none : (s : ℕ) (height : Height) (n r : ℕ) (bytes seal : List ℕ) → n ≤ r → made_fits s height n r bytes seal ≡ false
 made_none s H5 n r bytes seal past = no_one_fits s H5 n r bytes seal past

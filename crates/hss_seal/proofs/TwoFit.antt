@@ -41,14 +41,16 @@ two_fit top lower t q message kt kl five bt bq =
     let number : take 4 (hss_public top) ≡ to_be_bytes w32 2 = take_at (to_be_bytes w32 2) (key_public top) 4 refl in
     let whole : length (hss_public top) ≡ 60 = omega (arith, length-append (to_be_bytes w32 2) (key_public top), public_long top kt) in
     let signature = hss_signature top t lower q message in
-    let signs_key : fits (drop 4 (hss_public top)) (inner_key signature) (slice_range signature 4 2352) ≡ true = rw (key, parts.key, parts.first) (key_fits top t public kt bt) in
+    let signs_key : fits (drop 4 (hss_public top)) (inner_key signature) (slice_range signature 4 2352) ≡ true =
+    rw (key, parts.key, parts.first) (key_fits top t public kt bt) in
     let signs_message : fits (inner_key signature) message (drop 2408 signature) ≡ true = rw (parts.key, parts.second) (key_fits lower q message kl bq) in
     and_true _ _
     (and_true _ _ (eq-eqb _ _ whole) (and_true _ _ (bytes_same _ _ number) (bytes_same _ _ parts.levels)))
     (and_true _ _ signs_key signs_message)
 
 -- the seal of every number fits
-pub seal_fits : (seeds : Seeds) (lower : Height) (number : ℕ) (message : List ℕ) → length seeds.id ≡ 16 → hss_fits (hss_public (top_of seeds)) message (hss_seal_of seeds lower number message) ≡ true
+pub seal_fits : (seeds : Seeds) (lower : Height) (number : ℕ) (message : List ℕ) → length seeds.id ≡ 16
+    → hss_fits (hss_public (top_of seeds)) message (hss_seal_of seeds lower number message) ≡ true
 unfolding hss_seal_of
 seal_fits seeds lower number message long =
     let t = number / 2 ^ levels_of lower % 32 in

@@ -39,7 +39,8 @@ module _ (charges : List ℕ) (held it rest : List (Tx × Slot)) (e : Tx × Slot
             let put : slice_index_or (slice_set charges e.1.source value) e.1.source 0 ≡ value =
             get_or-set_same charges e.1.source value 0 (omega (arith, counting.0, known)) in
             let before : slice_index_or charges e.1.source 0 ≡ slice_index_or charges s 0 = ap (λ x. slice_index_or charges x 0) same in
-            subst (λ x. slice_index_or (slice_set charges e.1.source value) x 0 + charged_in s rest ≡ charged_in s held) same (omega (arith, put, before, all, one))
+            subst (λ x. slice_index_or (slice_set charges e.1.source value) x 0 + charged_in s rest ≡ charged_in s held) same
+            (omega (arith, put, before, all, one))
         | inr away ↦
             let none : charged_in s (e ∷ rest) ≡ 0 + charged_in s rest = split ∙ ap (λ b. point b + charged_in s rest) away in
             let stays : slice_index_or (slice_set charges e.1.source value) s 0 ≡ slice_index_or charges s 0 =

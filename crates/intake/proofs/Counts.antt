@@ -49,7 +49,8 @@ count_last txs tx q =
     let none : sum_by one [] ≡ 0 = refl in
     omega (arith, joined, last, none)
 
-times_more : (lists : List (List Tx)) (txs : List Tx) (tx q : Tx) → times_in (lists ++ (txs ++ tx ∷ []) ∷ []) q ≡ times_in (lists ++ txs ∷ []) q + point (tx_eq q tx)
+times_more : (lists : List (List Tx)) (txs : List Tx) (tx q : Tx)
+    → times_in (lists ++ (txs ++ tx ∷ []) ∷ []) q ≡ times_in (lists ++ txs ∷ []) q + point (tx_eq q tx)
 times_more lists txs tx q =
     let new = times_last lists (txs ++ tx ∷ []) q in
     let old = times_last lists txs q in
@@ -149,7 +150,8 @@ pub counted_at_first : AreCounted [] []
 counted_at_first = record { low = tt; all = λ q. let none : min 0 4294967295 ≤ 0 = omega arith in none }
 
 -- the first of the entries that are left, and the others
-pub low_front : (lists : List (List Tx)) (e : Tx × ℕ) (rest es : List (Tx × ℕ)) → es ≡ e ∷ rest → AreLow lists es → (e.1 ≤ times_in lists e.0) × AreLow lists rest
+pub low_front : (lists : List (List Tx)) (e : Tx × ℕ) (rest es : List (Tx × ℕ)) → es ≡ e ∷ rest → AreLow lists es
+    → (e.1 ≤ times_in lists e.0) × AreLow lists rest
 low_front lists e rest es is all = subst (AreLow lists) is all
 
 -- ---- names
@@ -165,7 +167,8 @@ named_last : (tx : Tx) (txs : List Tx) (a b c : Desk) → b ≡ named_all txs a 
 named_last tx txs a b c is new =
     new ∙ ap (λ (d : Desk). received d.n tx d) is ∙ sym (fold-append (λ (now : Desk) x. received now.n x now) a txs (tx ∷ []))
 
-pub named_of_more : (f : ℕ) (lists : List (List Tx)) (tx : Tx) (a b c : Desk) → HasNamedOf f lists a b → IsNamed tx b c → f < times_in lists tx → HasNamedOf f lists a c
+pub named_of_more : (f : ℕ) (lists : List (List Tx)) (tx : Tx) (a b c : Desk) → HasNamedOf f lists a b → IsNamed tx b c
+    → f < times_in lists tx → HasNamedOf f lists a c
 named_of_more f lists tx a b c first (inl new) often = record {
   txs = first.txs ++ tx ∷ [];
   is = named_last tx first.txs a b c first.is new;

@@ -41,7 +41,8 @@ module _ (g : Tx × Slot → Tx × Slot) (same : (e : Tx × Slot) → (g e).1.so
     clocks_below = is.clocks_below;
     clock_below = is.clock_below;
     sources = All-map (λ e. e.1.source ≤ d.n + 1) g d.held
-        (All-weaker (λ e. e.1.source ≤ d.n + 1) (λ e. (g e).1.source ≤ d.n + 1) (λ e at_most. subst (λ s. s ≤ d.n + 1) (sym (same e)) at_most) d.held is.sources);
+        (All-weaker (λ e. e.1.source ≤ d.n + 1) (λ e. (g e).1.source ≤ d.n + 1)
+        (λ e at_most. subst (λ s. s ≤ d.n + 1) (sym (same e)) at_most) d.held is.sources);
     within = λ s known. subst (λ c. c ≤ quota s d) (sym (charged_map s d.held)) (is.within s known);
   }
 
@@ -87,7 +88,8 @@ receipt_added {d} stamp arrived source tx is below known room = record {
       elim (cases_Bool (source == s)) [
         | inl own ↦
             let is_same : source ≡ s = grind (arith, own) in
-            let few : charged_in s d.held < quota s d = subst (λ x. charged_in x d.held < quota x d) is_same (room (subst (λ x. x ≤ d.n) (sym is_same) bounded)) in
+            let few : charged_in s d.held < quota s d =
+            subst (λ x. charged_in x d.held < quota x d) is_same (room (subst (λ x. x ≤ d.n) (sym is_same) bounded)) in
             let one : charged_in s (d.held ++ (tx, own_slot d.me stamp arrived source) ∷ []) ≡ charged_in s d.held + 1 = rw own at count in
             one_more _ _ (quota s d) one few
         | inr away ↦
@@ -118,7 +120,8 @@ charges_added charges held e charge known is are = (
 )
 
 -- what the answer New says
-kept_parts : (final held late : Bool) → is_new (if final then Final else if held then Held else if late then Full else New) ≡ true → (held ≡ false) × (late ≡ false)
+kept_parts : (final held late : Bool) → is_new (if final then Final else if held then Held else if late then Full else New) ≡ true
+    → (held ≡ false) × (late ≡ false)
 kept_parts true held late new = absurd (true≢false (sym new))
 kept_parts false true late new = absurd (true≢false (sym new))
 kept_parts false false true new = absurd (true≢false (sym new))
@@ -128,7 +131,8 @@ pub new_is_absent : (tx : Tx) (d : Desk) → is_new (restore_answer tx d) ≡ tr
 new_is_absent tx d new = (kept_parts (is_final tx d) (is_held tx d) (is_late d) new).0
 
 pub new_is_early : (tx : Tx) (d : Desk) → is_new (restore_answer tx d) ≡ true → next_stamp d < limit
-new_is_early tx d new = let early : nat_le limit (next_stamp d) ≡ false = (kept_parts (is_final tx d) (is_held tx d) (is_late d) new).1 in leb-false limit (next_stamp d) early
+new_is_early tx d new = let early : nat_le limit (next_stamp d) ≡ false = (kept_parts (is_final tx d) (is_held tx d) (is_late d) new).1 in
+    leb-false limit (next_stamp d) early
 
 new_parts : (final held quota late : Bool) → is_new (if final then Final else if held then Held else if quota || late then Full else New) ≡ true
     → (quota ≡ false) × (is_new (if final then Final else if held then Held else if late then Full else New) ≡ true)
@@ -206,7 +210,8 @@ sources_few {d} is = All-weaker (λ e. e.1.source ≤ d.n + 1) (λ e. e.1.source
 
 -- one more receipt of a list of bounded length
 pub receipts_more : (me stamp most : ℕ) (list : List Receipt) (e : Tx × Slot) (rest : List (Tx × Slot)) → stamp < own_stamp me e → length list < most
-    → (list ++ receipt_of me e ∷ []) ++ take (most - length (list ++ receipt_of me e ∷ [])) (map (receipt_of me) (filter (λ x. nat_lt stamp (own_stamp me x)) rest))
+    → (list ++ receipt_of me e ∷ [])
+    ++ take (most - length (list ++ receipt_of me e ∷ [])) (map (receipt_of me) (filter (λ x. nat_lt stamp (own_stamp me x)) rest))
     ≡ list ++ take (most - length list) (map (receipt_of me) (filter (λ x. nat_lt stamp (own_stamp me x)) (e ∷ rest)))
 receipts_more me stamp most list e rest later room =
     let passes : nat_lt stamp (own_stamp me e) ≡ true = lt-ltb stamp (own_stamp me e) later in

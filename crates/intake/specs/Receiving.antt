@@ -17,7 +17,8 @@ own_slot me stamp arrived source = record { stamps = slice_set (replicate 16 unk
 
 -- the own clock becomes the stamp, and the transaction follows the held ones
 abbrev pub stamped : ℕ → Bool → ℕ → Tx → Desk → Desk
-stamped stamp arrived source tx d = record d { clock = stamp; clocks = slice_set d.clocks d.me stamp; held = d.held ++ (tx, own_slot d.me stamp arrived source) ∷ [] }
+stamped stamp arrived source tx d =
+    record d { clock = stamp; clocks = slice_set d.clocks d.me stamp; held = d.held ++ (tx, own_slot d.me stamp arrived source) ∷ [] }
 
 abbrev pub with_receipt : ℕ → Tx → Desk → Desk
 with_receipt source tx d = stamped (next_stamp d) false source tx d

@@ -95,7 +95,8 @@ fn count(counts: &mut IndexMap<Tx, u32>, txs: &[Tx]) -> Result<(), NoMemory>
 }
 
 fn count_one(counts: &mut IndexMap<Tx, u32>, tx: &Tx) -> Result<(), NoMemory>
-    ensures { OnOk result ((lists : List (List Tx)) (txs : List Tx) → AreCounted (lists ++ txs ∷ []) counts.old.entries → AreCounted (lists ++ (txs ++ tx.now ∷ []) ∷ []) counts.new.entries) }
+    ensures { OnOk result ((lists : List (List Tx)) (txs : List Tx) → AreCounted (lists ++ txs ∷ []) counts.old.entries
+        → AreCounted (lists ++ (txs ++ tx.now ∷ []) ∷ []) counts.new.entries) }
 {
     let before = counts.get(tx).copied().unwrap_or(0);
     counts.insert(*tx, before.saturating_add(1))?;

@@ -95,8 +95,10 @@ module _ (s : Parameters) (faulty late : ℕ → Bool) (history : History) (stam
         made_above i x under parts.0 parts.1 (premises.true_stamps r below honest lifetime recorded i under parts.0 parts.1 x known)
 
     -- over the lifetimes of one replica
-    lifetimes_in_order : (r : ℕ) → r < s.n → faulty r ≡ false → (lifetimes : List (List Call)) → ((lifetime : List Call) → Contains lifetimes lifetime → Contains (history r) lifetime)
-        → UntilArrival s a r (KnownOnArrival s faulty stamp a b r) lifetimes → holds a (flat_map (λ lifetime. (lifetime_of s r lifetime).arrivals) lifetimes) ≡ true
+    lifetimes_in_order : (r : ℕ) → r < s.n → faulty r ≡ false → (lifetimes : List (List Call))
+        → ((lifetime : List Call) → Contains lifetimes lifetime → Contains (history r) lifetime)
+        → UntilArrival s a r (KnownOnArrival s faulty stamp a b r) lifetimes
+        → holds a (flat_map (λ lifetime. (lifetime_of s r lifetime).arrivals) lifetimes) ≡ true
         → is_before (flat_map (λ lifetime. (lifetime_of s r lifetime).arrivals) lifetimes) a b ≡ true
     lifetimes_in_order r below honest [] within known arrived = absurd (both_ways false refl arrived)
     lifetimes_in_order r below honest (lifetime ∷ lifetimes) within known arrived =
@@ -107,10 +109,13 @@ module _ (s : Parameters) (faulty late : ℕ → Bool) (history : History) (stam
           | inr before ↦ before_more a b (lifetime_of s r lifetime).arrivals (flat_map (λ lifetime. (lifetime_of s r lifetime).arrivals) lifetimes) before
           | inl neither ↦
               let later : holds a (flat_map (λ lifetime. (lifetime_of s r lifetime).arrivals) lifetimes) ≡ true =
-              later_holds (holds a (lifetime_of s r lifetime).arrivals) (holds a (flat_map (λ lifetime. (lifetime_of s r lifetime).arrivals) lifetimes)) neither.0
-              (sym (list_any-append (λ (x : Tx). tx_eq x a) (lifetime_of s r lifetime).arrivals (flat_map (λ lifetime. (lifetime_of s r lifetime).arrivals) lifetimes)) ∙ arrived) in
+              later_holds (holds a (lifetime_of s r lifetime).arrivals)
+              (holds a (flat_map (λ lifetime. (lifetime_of s r lifetime).arrivals) lifetimes)) neither.0
+              (sym (list_any-append (λ (x : Tx). tx_eq x a) (lifetime_of s r lifetime).arrivals
+              (flat_map (λ lifetime. (lifetime_of s r lifetime).arrivals) lifetimes)) ∙ arrived) in
               before_skip a b (lifetime_of s r lifetime).arrivals (flat_map (λ lifetime. (lifetime_of s r lifetime).arrivals) lifetimes) neither.1
-              (lifetimes_in_order r below honest lifetimes (λ other found. within other (Contains-later lifetime lifetimes other found)) (known.1 neither.0) later)
+              (lifetimes_in_order r below honest lifetimes (λ other found. within other (Contains-later lifetime lifetimes other found))
+              (known.1 neither.0) later)
         ]
       where
         later_holds : (x y : Bool) → x ≡ false → (x || y) ≡ true → y ≡ true

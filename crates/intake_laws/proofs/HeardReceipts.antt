@@ -50,7 +50,8 @@ learned_held d peer tx learned =
       ]
     ]
 
-module _ (n f me : ℕ) (mine : me < n) (few : n ≤ 16) (a b : Tx) (Knows : Past → Type 0) (stays_so : (p : Past) (call : Call) → Knows p → Knows (with_call p call))
+module _ (n f me : ℕ) (mine : me < n) (few : n ≤ 16) (a b : Tx) (Knows : Past → Type 0)
+    (stays_so : (p : Past) (call : Call) → Knows p → Knows (with_call p call))
     (owns : (p : Past) → Knows p → (x : ℕ) × Contains (p.receipts me) (receipt_at a x)) where
   abbrev Hears : Past → ℕ → Type 0
   Hears p i = Heard n f me mine few a b p i
@@ -205,7 +206,8 @@ module _ (n f me : ℕ) (mine : me < n) (few : n ≤ 16) (a b : Tx) (Knows : Pas
   after_hear p peer receipt there sound heard keeps =
       elim (cases_Bool (ltb receipt.stamp limit)) [
         | inl low ↦ after_low p peer receipt there sound heard keeps low
-        | inr high ↦ same_desk n f me mine few a b Knows stays_so owns p (Call.Hear peer receipt) sound keeps (rw high refl) (λ i. none i high) p.desk (rw high refl) refl refl
+        | inr high ↦ same_desk n f me mine few a b Knows stays_so owns p (Call.Hear peer receipt) sound keeps (rw high refl)
+            (λ i. none i high) p.desk (rw high refl) refl refl
       ]
     where
       none : (i : ℕ) → ltb receipt.stamp limit ≡ false → peer_receipt i (Call.Hear peer receipt) p.desk ≡ []

@@ -79,7 +79,8 @@ made i x known same = record {
 }
 
 pub true_stamps : (r : ℕ) → r < 5 → is_faulty r ≡ false → (lifetime : List Call) → Contains (history r) lifetime
-    → (i : ℕ) → i < 5 → is_faulty i ≡ false → (x : ℕ) → Contains ((lifetime_of five r lifetime).receipts i) (report second x) → Made five history i (report second x)
+    → (i : ℕ) → i < 5 → is_faulty i ≡ false → (x : ℕ) → Contains ((lifetime_of five r lifetime).receipts i) (report second x)
+    → Made five history i (report second x)
 true_stamps r below honest lifetime recorded i under correct x known =
     let here : Contains ((lifetime_of five r (log_of r)).receipts i) (report second x) =
     subst (λ (l : List Call). Contains ((lifetime_of five r l).receipts i) (report second x)) (in_the_log r lifetime recorded) known in

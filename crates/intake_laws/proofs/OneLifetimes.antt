@@ -116,7 +116,8 @@ module _ (s : Parameters) (valid : IsValid s) (faulty : ℕ → Bool) (stamp : �
 
   sound_next : (p : Past) (call : Call) (calls : List Call) → AllFirst (call ∷ calls) → Sound s.n s.f r p → Sound s.n s.f r (with_call p call)
   sound_next p call calls first sound =
-      sound_after s.n s.f r below valid.replicas.few p call (names_too s.n call (All-head (λ (c : Call). is_first_lifetime s.n c ≡ true) call calls first)) sound
+      sound_after s.n s.f r below valid.replicas.few p call
+      (names_too s.n call (All-head (λ (c : Call). is_first_lifetime s.n c ≡ true) call calls first)) sound
 
   -- what is final and has not arrived never arrives
   gone : (p : Past) (calls : List Call) → AllFirst calls → Sound s.n s.f r p → HearsFirst p calls → Both p → is_final a p.desk ≡ true
@@ -217,7 +218,8 @@ module _ (s : Parameters) (faulty : ℕ → Bool) (log : ℕ → List Call) (sta
           (λ i x under correct known. premises.true_first r below honest i under correct x known) (premises.arrived r below honest),
       λ none. tt,
     );
-    arrived = λ r below honest. list_any-append (λ (t : Tx). tx_eq t a) (lifetime_of s r (log r)).arrivals [] ∙ or_first (holds a (lifetime_of s r (log r)).arrivals)
+    arrived = λ r below honest. list_any-append (λ (t : Tx). tx_eq t a) (lifetime_of s r (log r)).arrivals []
+        ∙ or_first (holds a (lifetime_of s r (log r)).arrivals)
         (premises.arrived r below honest);
   }
     where

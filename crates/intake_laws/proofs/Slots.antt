@@ -111,7 +111,8 @@ module _ (n me : ℕ) (K : ℕ → Receipt → Type 0) where
               reported = λ i inside known. elim (cases_eq i peer) [
                 | inl is ↦ ((omega (arith, is, there)), at_peer i is here (learned other))
                 | inr apart ↦
-                    let stays : get_or (set e.1.stamps peer receipt.stamp) i unknown ≡ get_or e.1.stamps i unknown = get_or-set_other e.1.stamps peer i receipt.stamp unknown apart in
+                    let stays : get_or (set e.1.stamps peer receipt.stamp) i unknown ≡ get_or e.1.stamps i unknown =
+                    get_or-set_other e.1.stamps peer i receipt.stamp unknown apart in
                     let before = was.reported i inside (λ (absent : get_or e.1.stamps i unknown ≡ unknown). known (stays ∙ absent)) in
                     (before.0, subst (λ (s : ℕ). K i (receipt_at e.0 s)) (sym stays) before.1)
               ];

@@ -35,7 +35,8 @@ names_too n (Call.Restore tx) is = refl
 names_too n (Call.Arrive bound extra) is = refl
 names_too n (Call.Give tx) is = refl
 
-module _ (n f me : ℕ) (mine : me < n) (few : n ≤ 16) (a b : Tx) (Knows : Past → Type 0) (stays_so : (p : Past) (call : Call) → Knows p → Knows (with_call p call))
+module _ (n f me : ℕ) (mine : me < n) (few : n ≤ 16) (a b : Tx) (Knows : Past → Type 0)
+    (stays_so : (p : Past) (call : Call) → Knows p → Knows (with_call p call))
     (owns : (p : Past) → Knows p → (x : ℕ) × Contains (p.receipts me) (receipt_at a x)) where
   abbrev Hears : Past → ℕ → Type 0
   Hears p i = Heard n f me mine few a b p i
@@ -50,7 +51,8 @@ module _ (n f me : ℕ) (mine : me < n) (few : n ≤ 16) (a b : Tx) (Knows : Pas
       → Both (with_call p (Call.Receive tx source))
   after_receive p tx source sound heard keeps =
       elim (cases_Bool (is_new (answer_of source tx p.desk))) [
-        | inr old ↦ same_desk n f me mine few a b Knows stays_so owns p (Call.Receive tx source) sound keeps (rw old refl) (λ i. refl) p.desk (rw old refl) refl refl
+        | inr old ↦ same_desk n f me mine few a b Knows stays_so owns p (Call.Receive tx source) sound keeps (rw old refl)
+            (λ i. refl) p.desk (rw old refl) refl refl
         | inl new ↦
             let parts = new_if (is_final tx p.desk) (is_held tx p.desk) (is_full source p.desk) new in
             let own_is : own_receipt (Call.Receive tx source) p.desk ≡ receipt_at tx (next_stamp p.desk) ∷ [] = rw new refl in
@@ -85,7 +87,8 @@ module _ (n f me : ℕ) (mine : me < n) (few : n ≤ 16) (a b : Tx) (Knows : Pas
       keeps_clocks n me mine few a b (arrived bound extra p.desk) (arrived bound extra p.desk) (Hears p) (Hears (with_call p (Call.Arrive bound extra)))
       (Has (with_call p (Call.Arrive bound extra)))
       (Has (with_call p (Call.Arrive bound extra))) (Knows p) (Knows (with_call p (Call.Arrive bound extra))) refl refl
-      (quiet n f me mine few a b Knows stays_so owns p (Call.Arrive bound extra) p.desk sound keeps refl (λ i. refl)) (λ k. k) (stays_so p (Call.Arrive bound extra))
+      (quiet n f me mine few a b Knows stays_so owns p (Call.Arrive bound extra) p.desk sound keeps refl (λ i. refl)) (λ k. k)
+      (stays_so p (Call.Arrive bound extra))
       (keeps_map n me mine few a b p.desk (Hears p) (Has p) (Knows p) keeps (Has (with_call p (Call.Arrive bound extra)))
       (marked_if (k_of p.desk.n) p.desk.f bound extra)
       (λ e. elim (cases_Bool (waits e && comes (k_of p.desk.n) p.desk.f bound extra e)) [
@@ -113,7 +116,8 @@ module _ (n f me : ℕ) (mine : me < n) (few : n ≤ 16) (a b : Tx) (Knows : Pas
   after_give p tx sound keeps =
       keeps_clocks n me mine few a b (given tx p.desk) (given tx p.desk) (Hears p) (Hears (with_call p (Call.Give tx))) (Has (with_call p (Call.Give tx)))
       (Has (with_call p (Call.Give tx)))
-      (Knows p) (Knows (with_call p (Call.Give tx))) refl refl (quiet n f me mine few a b Knows stays_so owns p (Call.Give tx) p.desk sound keeps refl (λ i. refl)) (λ k. k)
+      (Knows p) (Knows (with_call p (Call.Give tx))) refl refl
+      (quiet n f me mine few a b Knows stays_so owns p (Call.Give tx) p.desk sound keeps refl (λ i. refl)) (λ k. k)
       (stays_so p (Call.Give tx))
       (keeps_map n me mine few a b p.desk (Hears p) (Has p) (Knows p) keeps (Has (with_call p (Call.Give tx))) (changed_at tx marked)
       (λ e. elim (cases_Bool (tx_eq tx e.0)) [
@@ -145,13 +149,16 @@ module _ (n f me : ℕ) (mine : me < n) (few : n ≤ 16) (a b : Tx) (Knows : Pas
   keeps_after p (Call.Hear peer receipt) first sound heard keeps = after_hear n f me mine few a b Knows stays_so owns p peer receipt first sound heard keeps
   keeps_after p (Call.HearClock peer clock) first sound heard keeps =
       elim (cases_Bool (ltb clock limit)) [
-        | inl low ↦ same_desk n f me mine few a b Knows stays_so owns p (Call.HearClock peer clock) sound keeps refl (λ i. refl) (clock_raised peer clock p.desk) (rw low refl) refl refl
-        | inr high ↦ same_desk n f me mine few a b Knows stays_so owns p (Call.HearClock peer clock) sound keeps refl (λ i. refl) p.desk (rw high refl) refl refl
+        | inl low ↦ same_desk n f me mine few a b Knows stays_so owns p (Call.HearClock peer clock) sound keeps refl (λ i. refl)
+            (clock_raised peer clock p.desk) (rw low refl) refl refl
+        | inr high ↦ same_desk n f me mine few a b Knows stays_so owns p (Call.HearClock peer clock) sound keeps refl (λ i. refl) p.desk
+            (rw high refl) refl refl
       ]
   keeps_after p (Call.Settle txs) first sound heard keeps =
       keeps_clocks n me mine few a b (settled txs p.desk) (settled txs p.desk) (Hears p) (Hears (with_call p (Call.Settle txs))) (Has p)
       (Has (with_call p (Call.Settle txs)))
-      (Knows p) (Knows (with_call p (Call.Settle txs))) refl refl (quiet n f me mine few a b Knows stays_so owns p (Call.Settle txs) p.desk sound keeps refl (λ i. refl))
+      (Knows p) (Knows (with_call p (Call.Settle txs))) refl refl
+      (quiet n f me mine few a b Knows stays_so owns p (Call.Settle txs) p.desk sound keeps refl (λ i. refl))
       (stays_had a p (Call.Settle txs))
       (stays_so p (Call.Settle txs)) (keeps_settled n me mine few a b p.desk (Hears p) (Has p) (Knows p) keeps txs)
   keeps_after p (Call.Restore tx) first sound heard keeps = absurd (both_ways false refl first)

@@ -19,7 +19,8 @@ report tx stamp = record { tx = tx; stamp = stamp }
 -- a replica receives a transaction, and hears the stamps of three others for it and that of the faulty replica
 abbrev pub gathers : Tx → ℕ → ℕ → ℕ → ℕ → ℕ → ℕ → List Call → List Call
 gathers tx stamp false_stamp me x y z later =
-    Call.Receive tx me ∷ Call.Hear x (report tx stamp) ∷ Call.Hear y (report tx stamp) ∷ Call.Hear z (report tx stamp) ∷ Call.Hear 4 (report tx false_stamp) ∷ later
+    Call.Receive tx me ∷ Call.Hear x (report tx stamp) ∷ Call.Hear y (report tx stamp) ∷ Call.Hear z (report tx stamp)
+    ∷ Call.Hear 4 (report tx false_stamp) ∷ later
 
 -- It receives the first and then the second. The faulty replica stamps the first late and the second early, and asks for
 -- the second to be let in first. Then the first arrives, and then the second.
@@ -43,7 +44,8 @@ first_stamp r = 1
 -- waits, with key 2.
 abbrev pub reversed : List Call
 reversed =
-    Call.Receive third 0 ∷ Call.Receive first 0 ∷ Call.Hear 1 (report first 2) ∷ Call.Hear 2 (report first 2) ∷ Call.Receive second 0 ∷ Call.Hear 3 (report second 1)
+    Call.Receive third 0 ∷ Call.Receive first 0 ∷ Call.Hear 1 (report first 2) ∷ Call.Hear 2 (report first 2) ∷ Call.Receive second 0
+    ∷ Call.Hear 3 (report second 1)
     ∷ Call.Hear 4 (report second 0) ∷ Call.Arrive (To 1 third) (second ∷ []) ∷ Call.Arrive All [] ∷ []
 
 -- the second is given, whatever its key

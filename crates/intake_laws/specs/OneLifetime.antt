@@ -30,7 +30,8 @@ pub record AreHeardInOrder (s : Parameters) (faulty : ℕ → Bool) (log : ℕ �
   pub stamped : ForHonest s faulty (λ i. stamp i < limit)
   pub in_between : ForHonest s faulty (λ r. HeardInBetween s faulty stamp a b r (log r))
   -- what is known of an honest replica's receipts of a and b is what that replica made
-  pub true_first : ForHonest s faulty (λ r. ForHonest s faulty (λ i. (x : ℕ) → Contains ((lifetime_of s r (log r)).receipts i) (record { tx = a; stamp = x }) → x ≡ stamp i))
+  pub true_first : ForHonest s faulty
+      (λ r. ForHonest s faulty (λ i. (x : ℕ) → Contains ((lifetime_of s r (log r)).receipts i) (record { tx = a; stamp = x }) → x ≡ stamp i))
   pub true_second : ForHonest s faulty (λ r. ForHonest s faulty (λ i. (x : ℕ) → Contains ((lifetime_of s r (log r)).receipts i) (record { tx = b; stamp = x })
       → Contains ((lifetime_of s i (log i)).receipts i) (record { tx = b; stamp = x })))
   pub not_given : ForHonest s faulty (λ r. AtEach (λ p call. holds b (arriving_by call p.desk) ≡ true → is_arrive call ≡ true) (opened s.n s.f r) (log r))

@@ -73,9 +73,11 @@ pub record AreInOrder (s : Parameters) (faulty late : ℕ → Bool) (history : H
   -- calls name replicas, and stamps are those of honest clocks
   pub calls : ForHonest s faulty (λ r. (lifetime : List Call) → Contains (history r) lifetime → All (λ call. names_replica s.n call ≡ true) lifetime)
   pub stamped : ForHonest s faulty (λ i. stamp i < limit)
-  pub in_between : ForHonest s faulty (λ r. late r ≡ false → (lifetime : List Call) → Contains (history r) lifetime → HeardInBetween s faulty stamp a b r lifetime)
+  pub in_between : ForHonest s faulty
+      (λ r. late r ≡ false → (lifetime : List Call) → Contains (history r) lifetime → HeardInBetween s faulty stamp a b r lifetime)
   -- True stamps: what is known of an honest replica's receipt of b, that replica made.
   pub true_stamps : ForHonest s faulty (λ r. (lifetime : List Call) → Contains (history r) lifetime
-      → ForHonest s faulty (λ i. late i ≡ false → (x : ℕ) → Contains ((lifetime_of s r lifetime).receipts i) (record { tx = b; stamp = x }) → Made s history i (record { tx = b; stamp = x })))
+      → ForHonest s faulty (λ i. late i ≡ false → (x : ℕ) → Contains ((lifetime_of s r lifetime).receipts i) (record { tx = b; stamp = x })
+      → Made s history i (record { tx = b; stamp = x })))
   pub on_arrival : ForHonest s faulty (λ r. UntilArrival s a r (KnownOnArrival s faulty stamp a b r) (history r))
   pub arrived : ForHonest s faulty (λ r. holds a (arrivals_of s history r) ≡ true)

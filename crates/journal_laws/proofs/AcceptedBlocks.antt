@@ -27,7 +27,8 @@ use Rattle.journal_rules.specs.Stores.{at}
 use Rattle.journal_laws.proofs.TurnTies.{Laws}
 
 -- nothing arrived
-pub none_more : (s : Parameters) (arrived : List Tx) (next : Known) (bs : List Block) (entries : List Shown) → TiedTo s next bs arrived entries → TiedTo s next bs (arrived ++ []) entries
+pub none_more : (s : Parameters) (arrived : List Tx) (next : Known) (bs : List Block) (entries : List Shown)
+    → TiedTo s next bs arrived entries → TiedTo s next bs (arrived ++ []) entries
 none_more s arrived next bs entries ties = subst (λ (ts : List Tx). TiedTo s next bs ts entries) (sym (append-nil arrived)) ties
 
 -- a certificate that is accepted for a view
@@ -53,7 +54,8 @@ proposal_entry b ballots = record { message = Message.Propose (named b); is_done
 abbrev pub own_ballot : Block → Ballot
 own_ballot b = ballot b.view (block_digest b)
 
-module _ (laws : Laws) (fits : Check) (s : Parameters) (known : Known) (blocks : List Block) (arrived : List Tx) (prior : List Shown) (tied : TiedTo s known blocks arrived prior) where
+module _ (laws : Laws) (fits : Check) (s : Parameters) (known : Known) (blocks : List Block) (arrived : List Tx) (prior : List Shown)
+    (tied : TiedTo s known blocks arrived prior) where
   pub takes_cert : (cert : Cert) (v : ℕ) → is_bad fits known cert v ≡ false → not (is_stored known.store cert.block) ≡ false → IsTaken fits s known prior cert v
   takes_cert cert v fine stored_there =
       let parts = or_parts (nat_le v cert.view) _ fine in
@@ -76,19 +78,24 @@ module _ (laws : Laws) (fits : Check) (s : Parameters) (known : Known) (blocks :
   pub valid_block : (b : Block) → IsTaking fits s known prior b → IsValidBlock s prior (named b)
   valid_block b t = record { good = t.cert.agrees; parent = t.cert.shown; below = t.cert.below }
 
-  pub taken_ties : (b : Block) (next : Known) (x : Shown) → IsTaking fits s known prior b → stored_by x ≡ Some (named b) → ((v : ℕ) (d : Digest) → voter_by v d x ≡ None) → taken_by s (prior ++ x ∷ []) x ≡ Some b.cert.block
-      → (x.is_done ≡ true → MayAgree s prior x.message) → All (IsLawfulVote s prior x) x.sealed → All (λ w. known.safety.voted < w.view) x.sealed → All (λ w. w.view ≤ next.safety.voted) x.sealed → length x.sealed ≤ 1
+  pub taken_ties : (b : Block) (next : Known) (x : Shown) → IsTaking fits s known prior b → stored_by x ≡ Some (named b)
+      → ((v : ℕ) (d : Digest) → voter_by v d x ≡ None) → taken_by s (prior ++ x ∷ []) x ≡ Some b.cert.block
+      → (x.is_done ≡ true → MayAgree s prior x.message) → All (IsLawfulVote s prior x) x.sealed
+      → All (λ w. known.safety.voted < w.view) x.sealed → All (λ w. w.view ≤ next.safety.voted) x.sealed → length x.sealed ≤ 1
       → known.safety.voted ≤ next.safety.voted
-      → next.setting ≡ known.setting → next.store ≡ with_block b known.store → next.safety.lock ≡ (seen_in known.store b.cert.view b.cert.block known.safety).lock
+      → next.setting ≡ known.setting → next.store ≡ with_block b known.store
+      → next.safety.lock ≡ (seen_in known.store b.cert.view b.cert.block known.safety).lock
       → next.safety.committed ≡ (seen_in known.store b.cert.view b.cert.block known.safety).committed → next.boxes ≡ known.boxes
       → next.high ≡ (if nat_lt known.high.view b.cert.view then b.cert else known.high) → next.prefix ≡ known.prefix
       → TiedTo s next (with_block b blocks) arrived (prior ++ x ∷ [])
   taken_ties b next x t stores_b unvoted takes done votes fresh voted one above setting store lock_is commit_is boxes high prefix =
-      next_block s known blocks arrived prior tied laws.moves next b t.cert.block x (laws.stay known.store b) (laws.found known.store b t.alone) t.alone t.cert.found t.cert.view t.cert.below
+      next_block s known blocks arrived prior tied laws.moves next b t.cert.block x (laws.stay known.store b)
+      (laws.found known.store b t.alone) t.alone t.cert.found t.cert.view t.cert.below
       stores_b unvoted takes done votes fresh voted one above setting store lock_is commit_is boxes high prefix
 
   -- a proposal that is accepted, and the vote for it
-  module _ (b : Block) (t : IsTaking fits s known prior b) (safe : is_safe known.store known.safety b ≡ true) (fresh : known.safety.voted < b.view) (over : known.high.view < b.view) where
+  module _ (b : Block) (t : IsTaking fits s known prior b) (safe : is_safe known.store known.safety b ≡ true)
+      (fresh : known.safety.voted < b.view) (over : known.high.view < b.view) where
     lawful_vote : (ballots : List Ballot) → IsLawfulVote s prior (proposal_entry b ballots) (own_ballot b)
     lawful_vote ballots = record {
       done = refl;
@@ -102,14 +109,20 @@ module _ (laws : Laws) (fits : Check) (s : Parameters) (known : Known) (blocks :
     }
 
     pub voting_ties : (next : Known) → b.view ≤ next.safety.voted → next.setting ≡ known.setting → next.store ≡ with_block b known.store
-        → next.safety.lock ≡ (seen_in known.store b.cert.view b.cert.block known.safety).lock → next.safety.committed ≡ (seen_in known.store b.cert.view b.cert.block known.safety).committed
+        → next.safety.lock ≡ (seen_in known.store b.cert.view b.cert.block known.safety).lock
+        → next.safety.committed ≡ (seen_in known.store b.cert.view b.cert.block known.safety).committed
         → next.boxes ≡ known.boxes → next.high ≡ (if nat_lt known.high.view b.cert.view then b.cert else known.high) → next.prefix ≡ known.prefix
-        → (TiedTo s next (with_block b blocks) (arrived ++ []) (prior ++ proposal_entry b [] ∷ [])) × (TiedTo s next (with_block b blocks) (arrived ++ []) (prior ++ proposal_entry b (own_ballot b ∷ []) ∷ []))
+        → (TiedTo s next (with_block b blocks) (arrived ++ []) (prior ++ proposal_entry b [] ∷ []))
+        × (TiedTo s next (with_block b blocks) (arrived ++ []) (prior ++ proposal_entry b (own_ballot b ∷ []) ∷ []))
     voting_ties next voted setting store lock_is commit_is boxes high prefix = (
-      none_more s arrived next (with_block b blocks) _ (taken_ties b next (proposal_entry b []) t refl (λ v d. refl) refl (λ done. valid_block b t) (All-nil (IsLawfulVote s prior (proposal_entry b [])))
-          (All-nil (λ w. known.safety.voted < w.view)) (All-nil (λ w. w.view ≤ next.safety.voted)) (omega arith) (omega (arith, fresh, voted)) setting store lock_is commit_is boxes high prefix),
-      none_more s arrived next (with_block b blocks) _ (taken_ties b next (proposal_entry b (own_ballot b ∷ [])) t refl (λ v d. refl) refl (λ done. valid_block b t)
-          (All-cons (IsLawfulVote s prior (proposal_entry b (own_ballot b ∷ []))) (own_ballot b) [] (lawful_vote (own_ballot b ∷ [])) (All-nil (IsLawfulVote s prior (proposal_entry b (own_ballot b ∷ [])))))
+      none_more s arrived next (with_block b blocks) _ (taken_ties b next (proposal_entry b []) t refl (λ v d. refl) refl
+          (λ done. valid_block b t) (All-nil (IsLawfulVote s prior (proposal_entry b [])))
+          (All-nil (λ w. known.safety.voted < w.view)) (All-nil (λ w. w.view ≤ next.safety.voted)) (omega arith)
+          (omega (arith, fresh, voted)) setting store lock_is commit_is boxes high prefix),
+      none_more s arrived next
+          (with_block b blocks) _ (taken_ties b next (proposal_entry b (own_ballot b ∷ [])) t refl (λ v d. refl) refl (λ done. valid_block b t)
+          (All-cons (IsLawfulVote s prior (proposal_entry b (own_ballot b ∷ []))) (own_ballot b) [] (lawful_vote (own_ballot b ∷ []))
+          (All-nil (IsLawfulVote s prior (proposal_entry b (own_ballot b ∷ [])))))
           (All-cons (λ w. known.safety.voted < w.view) (own_ballot b) [] fresh (All-nil (λ w. known.safety.voted < w.view)))
           (All-cons (λ w. w.view ≤ next.safety.voted) (own_ballot b) [] voted (All-nil (λ w. w.view ≤ next.safety.voted)))
           (omega arith) (omega (arith, fresh, voted)) setting store lock_is commit_is boxes high prefix),

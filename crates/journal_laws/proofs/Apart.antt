@@ -35,7 +35,8 @@ marked (kind ∷ rest) m is = by (nat_le NEW_VIEW kind && nat_le kind VOTE) refl
     own : (kind == kind) ≡ true
     own = grind (arith, nat_tests)
 
-    by : (t : Bool) → (nat_le NEW_VIEW kind && nat_le kind VOTE) ≡ t → cond t (Some (record { kind = kind; view = view })) None ≡ Some m → IsMarked (kind ∷ rest) m
+    by : (t : Bool) → (nat_le NEW_VIEW kind && nat_le kind VOTE) ≡ t → cond t (Some (record { kind = kind; view = view })) None ≡ Some m
+        → IsMarked (kind ∷ rest) m
     by true is found =
         let mark : Mark = record { kind = kind; view = view } in
         let same : mark ≡ m = cc in
@@ -48,11 +49,13 @@ marked (kind ∷ rest) m is = by (nat_le NEW_VIEW kind && nat_le kind VOTE) refl
     by false is found = absurd (cc)
 
 -- the marks of a kind are above the bound from which its views ascend
-above : (kind low high : ℕ) (statements : List (List ℕ)) → Rise low (views_of kind statements) high → All (λ m. m.kind ≡ kind → low < m.view) (marks_in statements)
+above : (kind low high : ℕ) (statements : List (List ℕ)) → Rise low (views_of kind statements) high
+    → All (λ m. m.kind ≡ kind → low < m.view) (marks_in statements)
 above kind low high [] rise = All-nil (λ (m : Mark). m.kind ≡ kind → low < m.view)
 above kind low high (x ∷ xs) rise = by (mark_of x) refl (above kind low high xs (rest_rises low high (has_kind kind x) (views_of kind xs) rise))
   where
-    by : (o : Option Mark) → mark_of x ≡ o → All (λ m. m.kind ≡ kind → low < m.view) (marks_in xs) → All (λ m. m.kind ≡ kind → low < m.view) (cons_option o (marks_in xs))
+    by : (o : Option Mark) → mark_of x ≡ o → All (λ m. m.kind ≡ kind → low < m.view) (marks_in xs)
+        → All (λ m. m.kind ≡ kind → low < m.view) (cons_option o (marks_in xs))
     by None is later = later
     by (Some m) is later = All-cons (λ n. n.kind ≡ kind → low < n.view) m (marks_in xs)
         (λ same.
@@ -77,7 +80,8 @@ apart (x ∷ xs) all =
         let rise : Rise m.view (views_of m.kind xs) r.1 = (subst (λ (vs : List ℕ). Rise r.0 (vs ++ views_of m.kind xs) r.1) own.view r.2).1 in
         AllPairs-cons (λ a b. a ≢ b) m (marks_in xs)
         (All-weaker (λ n. n.kind ≡ m.kind → m.view < n.view) (λ n. m ≢ n)
-        (λ n higher same. (let less : m.view < n.view = higher (ap (λ (k : Mark). k.kind) (sym same)) in let equal : m.view ≡ n.view = ap (λ (k : Mark). k.view) same in absurd (omega (arith, less, equal))))
+        (λ n higher same. (let less : m.view < n.view = higher (ap (λ (k : Mark). k.kind) (sym same)) in
+        let equal : m.view ≡ n.view = ap (λ (k : Mark). k.view) same in absurd (omega (arith, less, equal))))
         (marks_in xs) (above m.kind m.view r.1 xs rise))
         later
 

@@ -42,7 +42,8 @@ module _ (fits : Check) (gives : Gives) (s : State) (from : ℕ) (P : Outcome �
   abbrev pub Still : Type 0
   Still = (reason : Reason) → is_done reason ≡ false → (sends : List Outgoing) → P (record { reported = reported s reason [] sends; state = s })
 
-  pub new_view_cases : (call : Call) → Still → (Passes (new_view_rows fits s.known from call) → P (new_view_done gives s from call)) → P (on_new_view fits gives s from call)
+  pub new_view_cases : (call : Call) → Still → (Passes (new_view_rows fits s.known from call) → P (new_view_done gives s from call))
+      → P (on_new_view fits gives s from call)
   new_view_cases call still done = by (new_view_reason fits s.known from call) refl
     where
       by : (r : Reason) → new_view_reason fits s.known from call ≡ r → P (new_view_for gives s from call r)
@@ -59,10 +60,12 @@ module _ (fits : Check) (gives : Gives) (s : State) (from : ℕ) (P : Outcome �
       by reason is = still reason refl []
 
   pub order_cases : (sealed : SealedOrder) → Still
-      → (Passes (order_rows fits s.known from sealed) → Passes (kept_order_rows s.known from sealed.order) → P (order_done gives s sealed)) → P (on_order fits gives s from sealed)
+      → (Passes (order_rows fits s.known from sealed) → Passes (kept_order_rows s.known from sealed.order) → P (order_done gives s sealed))
+      → P (on_order fits gives s from sealed)
   order_cases sealed still done = by (order_reason fits s.known from sealed) refl
     where
-      following : Passes (order_rows fits s.known from sealed) → (r : Reason) → kept_order_reason s.known from sealed.order ≡ r → P (kept_order_for gives s sealed r)
+      following : Passes (order_rows fits s.known from sealed) → (r : Reason) → kept_order_reason s.known from sealed.order ≡ r
+          → P (kept_order_for gives s sealed r)
       following first Done is = done first (passes (kept_order_rows s.known from sealed.order) refl is)
       following first reason is = still reason refl []
 
@@ -71,10 +74,12 @@ module _ (fits : Check) (gives : Gives) (s : State) (from : ℕ) (P : Outcome �
       by reason is = still reason refl []
 
   pub propose_cases : (proposed : Proposed) → Still
-      → (Passes (propose_rows fits s.known from proposed) → Passes (proposed_rows fits s.known proposed.block) → P (propose_done gives s proposed.block)) → P (on_propose fits gives s from proposed)
+      → (Passes (propose_rows fits s.known from proposed) → Passes (proposed_rows fits s.known proposed.block) → P (propose_done gives s proposed.block))
+      → P (on_propose fits gives s from proposed)
   propose_cases proposed still done = by (propose_reason fits s.known from proposed) refl
     where
-      following : Passes (propose_rows fits s.known from proposed) → (r : Reason) → proposed_reason fits s.known proposed.block ≡ r → P (proposed_for gives s proposed.block r)
+      following : Passes (propose_rows fits s.known from proposed) → (r : Reason) → proposed_reason fits s.known proposed.block ≡ r
+          → P (proposed_for gives s proposed.block r)
       following first Done is = done first (passes (proposed_rows fits s.known proposed.block) refl is)
       following first reason is = still reason refl []
 
@@ -84,10 +89,12 @@ module _ (fits : Check) (gives : Gives) (s : State) (from : ℕ) (P : Outcome �
       by reason is = still reason refl []
 
   pub vote_cases : (voted : Voted) → Still
-      → (Passes (vote_rows fits s.known from voted) → Passes (voted_rows s.known from voted.vote voted.order) → P (vote_done gives s voted.vote voted.order)) → P (on_vote fits gives s from voted)
+      → (Passes (vote_rows fits s.known from voted) → Passes (voted_rows s.known from voted.vote voted.order) → P (vote_done gives s voted.vote voted.order))
+      → P (on_vote fits gives s from voted)
   vote_cases voted still done = by (vote_reason fits s.known from voted) refl
     where
-      following : Passes (vote_rows fits s.known from voted) → (r : Reason) → voted_reason s.known from voted.vote voted.order ≡ r → P (voted_for gives s voted r)
+      following : Passes (vote_rows fits s.known from voted) → (r : Reason) → voted_reason s.known from voted.vote voted.order ≡ r
+          → P (voted_for gives s voted r)
       following first Done is = done first (passes (voted_rows s.known from voted.vote voted.order) refl is)
       following first reason is = still reason refl []
 

@@ -32,7 +32,8 @@ first_at {X} p (x ∷ xs) d = by (p x) (first_at p xs d)
     step false = refl
 
     by : (t : Bool) → option_map_or (λ at. slice_index_or xs at d) (position p xs) d ≡ unwrap_or (find p xs) d
-        → option_map_or (λ at. slice_index_or (x ∷ xs) at d) (cond (nat_lt (cond (not t) (1 + position_or_len p xs) 0) (suc (length xs))) (Some (cond (not t) (1 + position_or_len p xs) 0)) None) d
+        → option_map_or (λ at. slice_index_or (x ∷ xs) at d)
+        (cond (nat_lt (cond (not t) (1 + position_or_len p xs) 0) (suc (length xs))) (Some (cond (not t) (1 + position_or_len p xs) 0)) None) d
         ≡ unwrap_or (cond t (Some x) (find p xs)) d
     by true same = rw (less_zero (length xs)) refl
     by false same = rw (one_more (position_or_len p xs), less_suc (position_or_len p xs) (length xs)) (step (nat_lt (position_or_len p xs) (length xs)) ∙ same)
@@ -47,10 +48,12 @@ others_at {X} p (x ∷ xs) = by (p x) (others_at p xs)
     step false = refl
 
     by : (t : Bool) → option_map_or (λ at. remove xs at) (position p xs) xs ≡ without_first p xs
-        → option_map_or (λ at. remove (x ∷ xs) at) (cond (nat_lt (cond (not t) (1 + position_or_len p xs) 0) (suc (length xs))) (Some (cond (not t) (1 + position_or_len p xs) 0)) None) (x ∷ xs)
+        → option_map_or (λ at. remove (x ∷ xs) at)
+        (cond (nat_lt (cond (not t) (1 + position_or_len p xs) 0) (suc (length xs))) (Some (cond (not t) (1 + position_or_len p xs) 0)) None) (x ∷ xs)
         ≡ cond t xs (x ∷ without_first p xs)
     by true same = rw (less_zero (length xs)) refl
-    by false same = rw (one_more (position_or_len p xs), less_suc (position_or_len p xs) (length xs)) (step (nat_lt (position_or_len p xs) (length xs)) ∙ ap (λ (ys : List X). x ∷ ys) same)
+    by false same = rw (one_more (position_or_len p xs), less_suc (position_or_len p xs) (length xs))
+        (step (nat_lt (position_or_len p xs) (length xs)) ∙ ap (λ (ys : List X). x ∷ ys) same)
 
 -- a test that no element with the other property passes finds the same as before
 pub find_others : {X : Type 0} (p q : X → Bool) (xs : List X) → ((x : X) → p x ≡ true → q x ≡ false) → find q (without_first p xs) ≡ find q xs

@@ -74,7 +74,8 @@ use Rattle.journal_laws.proofs.Votes.{votes_at_first}
 -- ---- a prefix with one more entry
 
 arrived_more : (prior : List Entry) (e : Entry) → arrived_in (prior ++ e ∷ []) ≡ arrived_in prior ++ arrived_by e.event
-arrived_more prior e = flat_map-append (λ (x : Entry). arrived_by x.event) prior (e ∷ []) ∙ ap (λ (ts : List Tx). arrived_in prior ++ ts) (append-nil (arrived_by e.event))
+arrived_more prior e = flat_map-append (λ (x : Entry). arrived_by x.event) prior (e ∷ [])
+    ∙ ap (λ (ts : List Tx). arrived_in prior ++ ts) (append-nil (arrived_by e.event))
 
 blocks_more : (prior : List Entry) (e : Entry) → blocks_in (prior ++ e ∷ []) ≡ with_stored (blocks_in prior) (stored_by e)
 blocks_more prior e = fold-append (λ (bs : List Block) (x : Entry). with_stored bs (stored_by x)) [] prior (e ∷ [])
@@ -82,7 +83,8 @@ blocks_more prior e = fold-append (λ (bs : List Block) (x : Entry). with_stored
 shown_more : (prior : List Entry) (e : Entry) → map shown (prior ++ e ∷ []) ≡ map shown prior ++ shown e ∷ []
 shown_more prior e = map-append shown prior (e ∷ [])
 
-tied_more : (s : Parameters) (known : Known) (prior : List Entry) (e : Entry) → TiedTo s known (with_stored (blocks_in prior) (stored_by e)) (arrived_in prior ++ arrived_by e.event) (map shown prior ++ shown e ∷ [])
+tied_more : (s : Parameters) (known : Known) (prior : List Entry) (e : Entry)
+    → TiedTo s known (with_stored (blocks_in prior) (stored_by e)) (arrived_in prior ++ arrived_by e.event) (map shown prior ++ shown e ∷ [])
     → TiedTo s known (blocks_in (prior ++ e ∷ [])) (arrived_in (prior ++ e ∷ [])) (map shown (prior ++ e ∷ []))
 tied_more s known prior e ties =
     subst (λ (bs : List Block). TiedTo s known bs (arrived_in (prior ++ e ∷ [])) (map shown (prior ++ e ∷ []))) (sym (blocks_more prior e))
@@ -94,8 +96,10 @@ all_pass p [] is = All-nil (λ x. p x ≡ true)
 all_pass p (x ∷ xs) is = let parts = and_parts (p x) (list_all p xs) is in All-cons (λ y. p y ≡ true) x xs parts.0 (all_pass p xs parts.1)
 
 -- The chain state of a stored block is that of the chain that the prefix shows.
-module _ (one_more : StandsForOneMore) (s : Parameters) (known : Known) (prior : List Entry) (tied : TiedTo s known (blocks_in prior) (arrived_in prior) (map shown prior)) (kept : StoreKept known.store) where
-  state_is : (d : Digest) (n : Named) → at known.store d ≡ Some n → chain_state_of (record { setting = known.setting; blocks = known.store }) d ≡ standing_at s prior d
+module _ (one_more : StandsForOneMore) (s : Parameters) (known : Known) (prior : List Entry)
+    (tied : TiedTo s known (blocks_in prior) (arrived_in prior) (map shown prior)) (kept : StoreKept known.store) where
+  state_is : (d : Digest) (n : Named) → at known.store d ≡ Some n
+      → chain_state_of (record { setting = known.setting; blocks = known.store }) d ≡ standing_at s prior d
   state_is d n found =
       ap (λ (p : Parameters). chain_state_of (record { setting = p; blocks = known.store }) d) tied.setting
       ∙ state_stands one_more s known.store (stored (map shown prior)) tied.safe.stores kept d n found
@@ -103,7 +107,8 @@ module _ (one_more : StandsForOneMore) (s : Parameters) (known : Known) (prior :
 
 -- ---- what was Done is lawful
 
-module _ (one_more : StandsForOneMore) (by : Scale) (known : Known) (prior : List Entry) (tied : TiedTo by.setting known (blocks_in prior) (arrived_in prior) (map shown prior)) (kept : StoreKept known.store)
+module _ (one_more : StandsForOneMore) (by : Scale) (known : Known) (prior : List Entry)
+    (tied : TiedTo by.setting known (blocks_in prior) (arrived_in prior) (map shown prior)) (kept : StoreKept known.store)
     (good : (fits : Check) (s : Parameters) (c : Cert) → (is_good fits s c ≡ true) ↔ IsGood fits s c) where
   cert_good : (c : Cert) → is_good by.fits known.setting c ≡ true → IsGood by.fits by.setting c
   cert_good c is = subst (λ (p : Parameters). IsGood by.fits p c) tied.setting ((good by.fits known.setting c).0 is)
@@ -112,8 +117,10 @@ module _ (one_more : StandsForOneMore) (by : Scale) (known : Known) (prior : Lis
   valid_in b plain was =
       let count_rest = and_parts (nat_eq (length b.orders) (quorum_of known.setting)) _ was.fit in
       let placed_rest = and_parts (list_all (λ sealed. is_placed known b sealed.order) b.orders) _ count_rest.1 in
-      let lists_seals = and_parts (list_all (λ sealed. lists_fit known b.cert.block sealed.order) b.orders) (list_all (is_sealed by.fits) b.orders) placed_rest.1 in
-      let placed : All (λ sealed. is_placed known b sealed.order ≡ true) b.orders = all_pass (λ (sealed : SealedOrder). is_placed known b sealed.order) b.orders placed_rest.0 in
+      let lists_seals = and_parts (list_all (λ sealed. lists_fit known b.cert.block sealed.order) b.orders)
+      (list_all (is_sealed by.fits) b.orders) placed_rest.1 in
+      let placed : All (λ sealed. is_placed known b sealed.order ≡ true) b.orders =
+      all_pass (λ (sealed : SealedOrder). is_placed known b sealed.order) b.orders placed_rest.0 in
       let parent : (n : Named) × (at known.store b.cert.block ≡ Some n) = stored_found known.store b.cert.block was.parent in
       record {
         good = cert_good b.cert was.good;
@@ -121,14 +128,19 @@ module _ (one_more : StandsForOneMore) (by : Scale) (known : Known) (prior : Lis
         below = plain.below;
         count = rw (← tied.setting) (let same : nat_eq (length b.orders) (quorum_of known.setting) ≡ true = count_rest.0 in grind (arith, nat_tests));
         views = All-weaker (λ sealed. is_placed known b sealed.order ≡ true) (λ sealed. sealed.order.view ≡ b.view)
-            (λ sealed is. let parts = and_parts (nat_eq sealed.order.view b.view) _ is in (let same : nat_eq sealed.order.view b.view ≡ true = parts.0 in grind (arith, nat_tests))) b.orders placed;
+            (λ sealed is. let parts = and_parts (nat_eq sealed.order.view b.view) _ is in
+            (let same : nat_eq sealed.order.view b.view ≡ true = parts.0 in grind (arith, nat_tests))) b.orders placed;
         parents = All-weaker (λ sealed. is_placed known b sealed.order ≡ true) (λ sealed. sealed.order.parent ≡ b.cert.block)
-            (λ sealed is. let parts = and_parts (nat_eq sealed.order.view b.view) _ is in (digest_eq_decides sealed.order.parent b.cert.block).0 (and_parts (digest_eq sealed.order.parent b.cert.block) _ parts.1).0) b.orders placed;
+            (λ sealed is. let parts = and_parts (nat_eq sealed.order.view b.view) _ is in
+            (digest_eq_decides sealed.order.parent b.cert.block).0 (and_parts (digest_eq sealed.order.parent b.cert.block) _ parts.1).0)
+            b.orders placed;
         replicas = All-weaker (λ sealed. is_placed known b sealed.order ≡ true) (λ sealed. sealed.order.replica < by.setting.n)
             (λ sealed is. let parts = and_parts (nat_eq sealed.order.view b.view) _ is in
-            subst (λ (p : Parameters). sealed.order.replica < p.n) tied.setting (ltb-true _ _ (and_parts (digest_eq sealed.order.parent b.cert.block) _ parts.1).1)) b.orders placed;
+            subst (λ (p : Parameters). sealed.order.replica < p.n) tied.setting
+            (ltb-true _ _ (and_parts (digest_eq sealed.order.parent b.cert.block) _ parts.1).1)) b.orders placed;
         seals = all_pass (is_sealed by.fits) b.orders lists_seals.1;
-        lists = subst (λ (c : Standings). All (λ sealed. fits_chain c sealed.order ≡ true) b.orders) (state_is one_more by.setting known prior tied kept b.cert.block parent.0 parent.1)
+        lists = subst (λ (c : Standings). All (λ sealed. fits_chain c sealed.order ≡ true) b.orders)
+            (state_is one_more by.setting known prior tied kept b.cert.block parent.0 parent.1)
             (all_pass (λ (sealed : SealedOrder). lists_fit known b.cert.block sealed.order) b.orders lists_seals.0);
       }
 
@@ -151,7 +163,8 @@ module _ (one_more : StandsForOneMore) (by : Scale) (known : Known) (prior : Lis
       subst (StandsAlone prior) (same_Some (named proposed.block) b is) (alone_when known.store prior tied.safe.stores proposed.block was.alone)
   alone_in (Some (messages.Vote voted)) was b is = absurd (none-some b is)
   alone_in (Some (messages.Fetch block)) was b is = absurd (none-some b is)
-  alone_in (Some (messages.Give block)) was b is = subst (StandsAlone prior) (same_Some (named block) b is) (alone_when known.store prior tied.safe.stores block was.alone)
+  alone_in (Some (messages.Give block)) was b is =
+      subst (StandsAlone prior) (same_Some (named block) b is) (alone_when known.store prior tied.safe.stores block was.alone)
 
 -- ---- drawn orders
 
@@ -168,7 +181,8 @@ module _ (one_more : StandsForOneMore) (by : Scale) (known : Known) (before : Li
       let view_is : o.view ≡ view_named statement = sym (ap view_named d.spelled ∙ view_of_order o (omega (arith, d.below, wide))) in
       let parent_is : o.parent ≡ parent_named statement = sym (ap parent_named d.spelled ∙ parent_of_order o (stored_long known.store o.parent d.stored)) in
       let now : o ≡ order_drawn o.replica o.view o.parent txs (standing_at by.setting prior o.parent) =
-      d.drawn ∙ ap (λ (ts : List Tx). order_drawn o.replica o.view o.parent ts (chain_state_of (record { setting = known.setting; blocks = known.store }) o.parent)) prefix
+      d.drawn ∙ ap (λ (ts : List Tx). order_drawn o.replica o.view o.parent ts
+      (chain_state_of (record { setting = known.setting; blocks = known.store }) o.parent)) prefix
       ∙ ap (order_drawn o.replica o.view o.parent txs) (state_is one_more by.setting known prior tied kept o.parent parent.0 parent.1) in
       record {
         stored = subst (λ (p : Digest). IsSome (shown_at (stored_in prior) p)) parent_is (ap is_some (tied.safe.stores.same o.parent ∙ parent.1));
@@ -179,14 +193,17 @@ module _ (one_more : StandsForOneMore) (by : Scale) (known : Known) (before : Li
       }
 
   draws_in : All (IsOwn known) e.turned.sealed → Draws by before e
-  draws_in own = All-weaker (IsOwn known) (λ statement. get_or statement 0 0 ≡ ORDER → IsDrawn by before e statement) (λ statement o is. drawn_in statement (o.drawn is)) e.turned.sealed own
+  draws_in own = All-weaker (IsOwn known) (λ statement. get_or statement 0 0 ≡ ORDER → IsDrawn by before e statement)
+      (λ statement o is. drawn_in statement (o.drawn is)) e.turned.sealed own
 
   own_in : by.replica ≡ known.me → All (IsOwn known) e.turned.sealed → All (λ statement. replica_named statement ≡ by.replica) e.turned.sealed
-  own_in whose own = All-weaker (IsOwn known) (λ statement. replica_named statement ≡ by.replica) (λ statement o. o.named ∙ byte_is known.me few ∙ sym whose) e.turned.sealed own
+  own_in whose own = All-weaker (IsOwn known) (λ statement. replica_named statement ≡ by.replica)
+      (λ statement o. o.named ∙ byte_is known.me few ∙ sym whose) e.turned.sealed own
 
 -- ---- what is stored
 
-kept_more : (laws : Laws) (short : FreshWithin) (fits : Check) (s : Parameters) (known : Known) (e : Event) → CanCome s e → (done : Bool) → (done ≡ true → WasDone fits known (message_in e)) → StoreKept known.store
+kept_more : (laws : Laws) (short : FreshWithin) (fits : Check) (s : Parameters) (known : Known) (e : Event) → CanCome s e → (done : Bool)
+    → (done ≡ true → WasDone fits known (message_in e)) → StoreKept known.store
     → StoreKept (with_stored known.store (if done then block_of (message_in e) else None))
 kept_more laws short fits s known e comes false was kept = kept
 kept_more laws short fits s known (Arrived list) comes true was kept = kept
@@ -196,7 +213,8 @@ kept_more laws short fits s known (Deliver from bytes) comes true was kept = by 
     one : (b : Block) → IsWritableBlock b → WasTaken fits known b → StoreKept (with_block b known.store)
     one b shape w = store_more short known.store b (laws.stay known.store b) (laws.found known.store b w.alone) shape w.parent w.alone kept
 
-    by : (r : Result MessageView WireFault) → read_of bytes ≡ r → WasDone fits known (result_ok r) → StoreKept (with_stored known.store (block_of (result_ok r)))
+    by : (r : Result MessageView WireFault) → read_of bytes ≡ r → WasDone fits known (result_ok r)
+        → StoreKept (with_stored known.store (block_of (result_ok r)))
     by (Err fault) is was = kept
     by (Ok (messages.NewView call)) is was = kept
     by (Ok (messages.Ask call)) is was = kept
@@ -224,20 +242,26 @@ pub record Holds (by : Scale) (me : ℕ) (state : State) (prior : List Entry) : 
   pub kept : StoreKept state.known.store
   pub entries : EachEntry (IsSo by) prior
 
-module _ (laws : Laws) (one_more : StandsForOneMore) (short : FreshWithin) (gives : Gives) (by : Scale) (me : ℕ) (small : length by.arrivals < 2 ^ 32) (whose : by.replica ≡ me) (few : me < 256) where
-  holds_more : (state : State) (prior : List Entry) (e : Event) (rest : List Tx) → CanCome by.setting e → by.arrivals ≡ arrived_in prior ++ (arrived_by e ++ rest) → Holds by me state prior
+module _ (laws : Laws) (one_more : StandsForOneMore) (short : FreshWithin) (gives : Gives) (by : Scale) (me : ℕ)
+    (small : length by.arrivals < 2 ^ 32) (whose : by.replica ≡ me) (few : me < 256) where
+  holds_more : (state : State) (prior : List Entry) (e : Event) (rest : List Tx) → CanCome by.setting e
+      → by.arrivals ≡ arrived_in prior ++ (arrived_by e ++ rest) → Holds by me state prior
       → Holds by me (turn_of by.fits gives state e).state (prior ++ record { event = e; turned = (turn_of by.fits gives state e).reported } ∷ [])
   holds_more state prior e rest comes begins h =
       let o : Outcome = turn_of by.fits gives state e in
       let entry : Entry = record { event = e; turned = o.reported } in
       let ties : TurnTies by.fits by.setting state.known (blocks_in prior) (arrived_in prior) (map shown prior) (message_in e) (arrived_by e) o =
       turn_ties laws by.fits gives by.setting state (blocks_in prior) (arrived_in prior) (map shown prior) h.tied h.bounds e (comes_from e comes) in
-      let tied : TiedTo by.setting o.state.known (blocks_in (prior ++ entry ∷ [])) (arrived_in (prior ++ entry ∷ [])) (map shown (prior ++ entry ∷ [])) = tied_more by.setting o.state.known prior entry ties.tied in
-      let kept_now : StoreKept o.state.known.store = subst StoreKept (ap (λ (bs : List Block). with_stored bs (stored_by entry)) h.tied.store ∙ sym ties.tied.store)
+      let tied : TiedTo by.setting o.state.known (blocks_in (prior ++ entry ∷ [])) (arrived_in (prior ++ entry ∷ []))
+      (map shown (prior ++ entry ∷ [])) = tied_more by.setting o.state.known prior entry ties.tied in
+      let kept_now : StoreKept o.state.known.store =
+      subst StoreKept (ap (λ (bs : List Block). with_stored bs (stored_by entry)) h.tied.store ∙ sym ties.tied.store)
       (kept_more laws short by.fits by.setting state.known e comes (is_done o.reported.reason) ties.done h.kept) in
       let now : List Tx = arrived_in (prior ++ entry ∷ []) in
-      let split : by.arrivals ≡ now ++ rest = begins ∙ sym (append_assoc (arrived_in prior) (arrived_by e) rest) ∙ ap (λ (ts : List Tx). ts ++ rest) (sym (arrived_more prior entry)) in
-      let fewer : length now ≤ length by.arrivals = (let sum : length by.arrivals ≡ length now + length rest = ap (λ (ts : List Tx). length ts) split ∙ length-append now rest in omega (arith, sum)) in
+      let split : by.arrivals ≡ now ++ rest = begins ∙ sym (append_assoc (arrived_in prior) (arrived_by e) rest)
+      ∙ ap (λ (ts : List Tx). ts ++ rest) (sym (arrived_more prior entry)) in
+      let fewer : length now ≤ length by.arrivals =
+      (let sum : length by.arrivals ≡ length now + length rest = ap (λ (ts : List Tx). length ts) split ∙ length-append now rest in omega (arith, sum)) in
       let prefix_length : length o.state.known.prefix ≡ length now = ap (λ (ts : List Tx). length ts) tied.prefix in
       let kept : o.reported.kept ≡ length now = ties.kept ∙ min_is (length o.state.known.prefix) (length now) prefix_length (omega (arith, fewer, small)) in
       let known_now : now ≡ take o.reported.kept by.arrivals = sym (ap (take o.reported.kept) split ∙ take_at now rest o.reported.kept (sym kept)) in
@@ -269,16 +293,20 @@ module _ (laws : Laws) (one_more : StandsForOneMore) (short : FreshWithin) (give
       min_is : (m n : ℕ) → m ≡ n → n < 2 ^ 32 → min m 4294967295 ≡ n
       min_is m n same below = omega (arith, same, below)
 
-  pub run_holds : (state : State) (prior : List Entry) (events : List Event) (rest : List Tx) → AllCome by.setting events → by.arrivals ≡ arrived_in prior ++ (flat_map arrived_by events ++ rest) → Holds by me state prior
+  pub run_holds : (state : State) (prior : List Entry) (events : List Event) (rest : List Tx) → AllCome by.setting events
+      → by.arrivals ≡ arrived_in prior ++ (flat_map arrived_by events ++ rest) → Holds by me state prior
       → Holds by me (state_after by.fits gives state events) (prior ++ journal_of by.fits gives state events)
   run_holds state prior [] rest comes begins h = subst (Holds by me state) (sym (append-nil prior)) h
   run_holds state prior (e ∷ es) rest comes begins h =
       let o : Outcome = turn_of by.fits gives state e in
       let entry : Entry = record { event = e; turned = o.reported } in
-      let begins_here : by.arrivals ≡ arrived_in prior ++ (arrived_by e ++ (flat_map arrived_by es ++ rest)) = begins ∙ ap (λ (ts : List Tx). arrived_in prior ++ ts) (append_assoc (arrived_by e) (flat_map arrived_by es) rest) in
-      let now : Holds by me o.state (prior ++ entry ∷ []) = holds_more state prior e (flat_map arrived_by es ++ rest) (All-head (CanCome by.setting) e es comes) begins_here h in
+      let begins_here : by.arrivals ≡ arrived_in prior ++ (arrived_by e ++ (flat_map arrived_by es ++ rest)) =
+      begins ∙ ap (λ (ts : List Tx). arrived_in prior ++ ts) (append_assoc (arrived_by e) (flat_map arrived_by es) rest) in
+      let now : Holds by me o.state (prior ++ entry ∷ []) =
+      holds_more state prior e (flat_map arrived_by es ++ rest) (All-head (CanCome by.setting) e es comes) begins_here h in
       let begins_now : by.arrivals ≡ arrived_in (prior ++ entry ∷ []) ++ (flat_map arrived_by es ++ rest) =
-      begins_here ∙ sym (append_assoc (arrived_in prior) (arrived_by e) (flat_map arrived_by es ++ rest)) ∙ ap (λ (ts : List Tx). ts ++ (flat_map arrived_by es ++ rest)) (sym (arrived_more prior entry)) in
+      begins_here ∙ sym (append_assoc (arrived_in prior) (arrived_by e) (flat_map arrived_by es ++ rest))
+      ∙ ap (λ (ts : List Tx). ts ++ (flat_map arrived_by es ++ rest)) (sym (arrived_more prior entry)) in
       subst (Holds by me (state_after by.fits gives o.state es)) (append_assoc prior (entry ∷ []) (journal_of by.fits gives o.state es))
       (run_holds o.state (prior ++ entry ∷ []) es rest (All-tail (CanCome by.setting) e es comes) begins_now now)
 
@@ -320,13 +348,15 @@ module _ (by : Scale) (journal : List Entry) (agrees : Agrees by.setting (map sh
   lawful_votes = agrees.votes (map shown before) (shown e) (map shown after) (ap (map shown) is ∙ map-append shown before (e ∷ after))
 
   votes_keep : Votes by before e
-  votes_keep k d inside = let v = lawful_votes k d inside in record { block = v.block; delivered = v.delivered; digest = v.digest; view = v.own_view; rule = v.rule }
+  votes_keep k d inside = let v = lawful_votes k d inside in
+      record { block = v.block; delivered = v.delivered; digest = v.digest; view = v.own_view; rule = v.rule }
 
   rises_keep : Rises by before e
   rises_keep = record {
     rise = pairs_prefix (λ earlier later. earlier.view < later.view) (ballots_in (map shown (up_to before e))) (ballots_in (map shown after))
         (subst (λ (vs : List Ballot). AllPairs (λ earlier later. earlier.view < later.view) vs)
-        (ap (λ (es : List Entry). ballots_in (map shown es)) whole ∙ ap ballots_in (map-append shown (up_to before e) after) ∙ flat_map-append (λ (x : Shown). x.sealed) (map shown (up_to before e)) (map shown after))
+        (ap (λ (es : List Entry). ballots_in (map shown es)) whole ∙ ap ballots_in (map-append shown (up_to before e) after)
+        ∙ flat_map-append (λ (x : Shown). x.sealed) (map shown (up_to before e)) (map shown after))
         agrees.ascending);
     above_lock = λ k d inside. (lawful_votes k d inside).above_lock;
   }
@@ -339,9 +369,11 @@ module _ (by : Scale) (journal : List Entry) (agrees : Agrees by.setting (map sh
       marks)
 
   keeps_all : IsSo by before e → KeepsAll by before e
-  keeps_all so = keep_all by before e so.knows (record { idle = so.idle; own = so.own; once = marks_keep; done = so.done; alone = so.alone }) so.draws rises_keep votes_keep
+  keeps_all so = keep_all by before e so.knows
+      (record { idle = so.idle; own = so.own; once = marks_keep; done = so.done; alone = so.alone }) so.draws rises_keep votes_keep
 
-module _ (laws : Laws) (one_more : StandsForOneMore) (short : FreshWithin) (gives : Gives) (by : Scale) (views me capacity : ℕ) (events : List Event) (may : MayCome by views me events) where
+module _ (laws : Laws) (one_more : StandsForOneMore) (short : FreshWithin) (gives : Gives) (by : Scale) (views me capacity : ℕ)
+    (events : List Event) (may : MayCome by views me events) where
   abbrev start : State
   start = opening_state by.setting views me capacity
 
@@ -352,10 +384,12 @@ module _ (laws : Laws) (one_more : StandsForOneMore) (short : FreshWithin) (give
   end = state_after by.fits gives start events
 
   ends_so : Holds by me end journal
-  ends_so = run_holds laws one_more short gives by me may.few may.own may.replica start [] events may.rest may.come may.begins (opening_holds by views me capacity may.wide)
+  ends_so = run_holds laws one_more short gives by me may.few may.own may.replica start [] events may.rest may.come may.begins
+      (opening_holds by views me capacity may.wide)
 
   pub is_lawful : AreSealedOnce views (sealed_in journal) → IsLawful by journal
-  is_lawful once before e after is = keeps_all by journal ends_so.tied.lawful (marks_apart views (sealed_in journal) once) before e after is (ends_so.entries before e after is)
+  is_lawful once before e after is = keeps_all by journal ends_so.tied.lawful (marks_apart views (sealed_in journal) once) before e after is
+      (ends_so.entries before e after is)
 
   pub stands : StandsAt by end journal
   stands =
@@ -367,5 +401,6 @@ module _ (laws : Laws) (one_more : StandsForOneMore) (short : FreshWithin) (give
         commit = sym (at_digest known.store known.safety.committed (commit by.setting prior) safe.at_commit);
         view = at_view known.store known.safety.committed (commit by.setting prior) safe.at_commit;
         finals = ap (λ (p : Parameters). finals (chain_state_of (record { setting = p; blocks = known.store }) known.safety.committed)) ends_so.tied.setting
-            ∙ ap finals (state_stands one_more by.setting known.store (stored prior) safe.stores ends_so.kept known.safety.committed (commit by.setting prior) safe.at_commit);
+            ∙ ap finals (state_stands one_more by.setting known.store (stored prior) safe.stores ends_so.kept known.safety.committed
+            (commit by.setting prior) safe.at_commit);
       }

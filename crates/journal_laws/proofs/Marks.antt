@@ -75,7 +75,8 @@ if_seals old true x y p q = p
 if_seals old false x y p q = q
 
 -- what is sealed, if anything is
-pub one_sealed : (old : Known) (gives : Gives) (s : State) (statement receivers : List ℕ) → Seals old (statement ∷ []) s.known → SealsIn old (sealed_to gives s statement receivers)
+pub one_sealed : (old : Known) (gives : Gives) (s : State) (statement receivers : List ℕ) → Seals old (statement ∷ []) s.known
+    → SealsIn old (sealed_to gives s statement receivers)
 one_sealed old gives s statement receivers h = if_seals old (is_spent s) _ _ (forget old (statement ∷ []) s.known h) h
 
 -- ---- the marks of two states
@@ -128,7 +129,8 @@ module _ (s t : Known) (me view : ℕ) (small : view < 2 ^ 32) (h : Goes s t) wh
     votes = h.voted;
   }
 
-  pub a_proposal : (cert : Cert) (orders : List SealedOrder) → s.proposed < view → view ≤ t.proposed → Seals s (propose_spelling me (record { view = view; cert = cert; orders = orders }) ∷ []) t
+  pub a_proposal : (cert : Cert) (orders : List SealedOrder) → s.proposed < view → view ≤ t.proposed
+      → Seals s (propose_spelling me (record { view = view; cert = cert; orders = orders }) ∷ []) t
   a_proposal cert orders above below = record {
     bounds = h.bounds;
     views = h.views;
@@ -151,7 +153,8 @@ module _ (s t : Known) (me view : ℕ) (small : view < 2 ^ 32) (h : Goes s t) wh
   }
 
   -- with the order that it carries
-  pub with_order : (block parent : Digest) (fresh late : List Tx) → s.safety.voted < view → view ≤ t.safety.voted → view + 1 < 2 ^ 32 → s.ordered < view + 1 → view + 1 ≤ t.ordered
+  pub with_order : (block parent : Digest) (fresh late : List Tx) → s.safety.voted < view → view ≤ t.safety.voted → view + 1 < 2 ^ 32
+      → s.ordered < view + 1 → view + 1 ≤ t.ordered
       → Seals s (vote_spelling me view block ∷ order_spelling (record { replica = me; view = view + 1; parent = parent; fresh = fresh; late = late }) ∷ []) t
   with_order block parent fresh late above below wide above_ordered below_ordered = record {
     bounds = h.bounds;

@@ -57,14 +57,20 @@ module _ (gives other : Gives) where
   unfolding Alike
   alike_sealed s statement receivers = elim (cases_Bool (is_spent s)) [
     | inl spent ↦ rw spent (λ _. refl)
-    | inr left ↦ rw left (λ same. ap (λ (seal : List ℕ). record { reported = reported s Done (statement ∷ []) (to_each receivers (sealed_bytes statement seal)); state = one_more_made s }) same.0)
+    | inr left ↦ rw left (λ same. ap (λ (seal : List ℕ).
+        record { reported = reported s Done (statement ∷ []) (to_each receivers (sealed_bytes statement seal)); state = one_more_made s }) same.0)
   ]
 
   alike_lone : (s : State) (v : ℕ) (d : Digest) → Alike s.made (λ h. lone_vote h s v d)
   unfolding Alike
   alike_lone s v d = elim (cases_Bool (is_spent s)) [
     | inl spent ↦ rw spent (λ _. refl)
-    | inr left ↦ rw left (λ same. ap (λ (seal : List ℕ). record { reported = reported s Done (vote_statement s.known v d ∷ []) (to_each (to_next s.known v) (vote_bytes s.known v d seal None)); state = one_more_made s }) same.0)
+    | inr left ↦ rw left (λ same. ap (λ (seal : List ℕ).
+        record {
+          reported = reported s Done (vote_statement s.known v d ∷ []) (to_each (to_next s.known v) (vote_bytes s.known v d seal None));
+          state = one_more_made s;
+        })
+        same.0)
   ]
 
   alike_vote_for : (s : State) (v : ℕ) (d : Digest) (order : LocalOrder) → Alike s.made (λ h. vote_for h s v d order)
@@ -73,7 +79,8 @@ module _ (gives other : Gives) where
     | inl spent ↦ rw spent (λ _. refl)
     | inr left ↦ rw left (elim (cases_Bool (is_spent (one_more_made s))) [
       | inl spent ↦ rw spent (λ _. refl)
-      | inr more ↦ rw more (λ same. ap (λ (seal : List ℕ). both seal (gives (s.made + 1) (order_spelling order))) same.0 ∙ ap (λ (seal : List ℕ). both (other s.made (vote_statement s.known v d)) seal) same.1.0)
+      | inr more ↦ rw more (λ same. ap (λ (seal : List ℕ). both seal (gives (s.made + 1) (order_spelling order))) same.0
+          ∙ ap (λ (seal : List ℕ). both (other s.made (vote_statement s.known v d)) seal) same.1.0)
     ])
   ]
     where
@@ -89,14 +96,16 @@ module _ (gives other : Gives) where
   alike_tick s floor =
       let now : Known = record s.known { view = max s.known.view floor + 1 } in
       alike_if s.made (nat_le s.known.views (max s.known.view floor)) (λ _. quiet s ViewLimit) (λ h. calls h (knowing s now)) (λ _. refl)
-      (alike_sealed (knowing s now) (call_spelling NEW_VIEW s.known.me (max s.known.view floor + 1) s.known.high) (leader_of s.known.setting (max s.known.view floor + 1) ∷ []))
+      (alike_sealed (knowing s now) (call_spelling NEW_VIEW s.known.me (max s.known.view floor + 1) s.known.high)
+      (leader_of s.known.setting (max s.known.view floor + 1) ∷ []))
 
   alike_new_view : (s : State) (from : ℕ) (call : Call) → Alike s.made (λ h. new_view_done h s from call)
   unfolding Alike new_view_done
   alike_new_view s from call =
       let after : Known = joined from call s.known in
       let next : Known = asked_for call.view after in
-      alike_if s.made (nat_eq (callers_of after.gathered call.view) (quorum_of after.setting)) (λ h. asks h (knowing s next)) (λ _. quiet (knowing s after) Done)
+      alike_if s.made (nat_eq (callers_of after.gathered call.view) (quorum_of after.setting)) (λ h. asks h (knowing s next))
+      (λ _. quiet (knowing s after) Done)
       (alike_sealed (knowing s next) (call_spelling ASK s.known.me call.view next.high) (everyone next)) (λ _. refl)
 
   alike_ask : (s : State) (from : ℕ) (call : Call) → Alike s.made (λ h. ask_done h s from call)
@@ -120,9 +129,11 @@ module _ (gives other : Gives) where
       let after : Known = taken b s.known in
       let voting_now : Known = record after { safety = record after.safety { voted = b.view } } in
       alike_if s.made (nat_lt b.view s.known.views)
-      (λ h. vote_for h (knowing s (ordering (b.view + 1) voting_now)) b.view (block_digest b) (order_of_view (ordering (b.view + 1) voting_now) (b.view + 1) (block_digest b)))
+      (λ h. vote_for h (knowing s (ordering (b.view + 1) voting_now)) b.view (block_digest b)
+      (order_of_view (ordering (b.view + 1) voting_now) (b.view + 1) (block_digest b)))
       (λ h. lone_vote h (knowing s (record voting_now { view = b.view })) b.view (block_digest b))
-      (alike_vote_for (knowing s (ordering (b.view + 1) voting_now)) b.view (block_digest b) (order_of_view (ordering (b.view + 1) voting_now) (b.view + 1) (block_digest b)))
+      (alike_vote_for (knowing s (ordering (b.view + 1) voting_now)) b.view (block_digest b)
+      (order_of_view (ordering (b.view + 1) voting_now) (b.view + 1) (block_digest b)))
       (alike_lone (knowing s (record voting_now { view = b.view })) b.view (block_digest b))
 
   alike_certified : (s : State) (f : Option Formed) → Alike s.made (λ h. certified_if h s f)
@@ -131,12 +142,14 @@ module _ (gives other : Gives) where
   alike_certified s (Some f) =
       let after : Known = seen f.cert s.known in
       let next : Known = proposing_next f.cert after in
-      alike_if s.made (nat_eq f.cert.view s.known.views) (λ _. quiet (knowing s after) Done) (λ h. sealed_to h (knowing s next) (propose_spelling s.known.me (next_block f)) (everyone next)) (λ _. refl)
+      alike_if s.made (nat_eq f.cert.view s.known.views) (λ _. quiet (knowing s after) Done)
+      (λ h. sealed_to h (knowing s next) (propose_spelling s.known.me (next_block f)) (everyone next)) (λ _. refl)
       (alike_sealed (knowing s next) (propose_spelling s.known.me (next_block f)) (everyone next))
 
   alike_vote : (s : State) (vote : Vote) (order : Option SealedOrder) → Alike s.made (λ h. vote_done h s vote order)
   unfolding Alike vote_done
-  alike_vote s vote order = alike_certified (knowing s (voting.keeping s.known vote.view vote.block (bare vote) order)) (formed s.known vote.view vote.block (bare vote) order)
+  alike_vote s vote order = alike_certified (knowing s (voting.keeping s.known vote.view vote.block (bare vote) order))
+      (formed s.known vote.view vote.block (bare vote) order)
 
   alike_message : (fits : Check) (s : State) (from : ℕ) (m : MessageView) → Alike s.made (λ h. on_message fits h s from m)
   unfolding Alike
@@ -192,14 +205,16 @@ module _ (gives other : Gives) where
 
   -- ---- runs
 
-  pub alike_parts : (made : ℕ) (xs ys : List (List ℕ)) → SealAlike gives other made (xs ++ ys) → SealAlike gives other made xs × SealAlike gives other (made + length xs) ys
+  pub alike_parts : (made : ℕ) (xs ys : List (List ℕ)) → SealAlike gives other made (xs ++ ys)
+      → SealAlike gives other made xs × SealAlike gives other (made + length xs) ys
   alike_parts made [] ys same = (tt, subst (λ (k : ℕ). SealAlike gives other k ys) (omega arith) same)
   alike_parts made (x ∷ xs) ys same =
       let rest = alike_parts (made + 1) xs ys same.1 in
       ((same.0, rest.0), subst (λ (k : ℕ). SealAlike gives other k ys) (omega arith) rest.1)
 
   pub alike_run : (fits : Check) (k : Known) (made capacity : ℕ) (events : List Event) → InBounds k → made ≤ marks k → 5 * k.views ≤ capacity
-      → SealAlike gives other made (sealed_in (journal_of fits gives (state_of k made capacity) events)) → journal_of fits gives (state_of k made capacity) events ≡ journal_of fits other (state_of k made capacity) events
+      → SealAlike gives other made (sealed_in (journal_of fits gives (state_of k made capacity) events))
+      → journal_of fits gives (state_of k made capacity) events ≡ journal_of fits other (state_of k made capacity) events
   unfolding Alike
   alike_run fits k made capacity [] b few room same = refl
   alike_run fits k made capacity (e ∷ es) b few room same =
@@ -212,7 +227,8 @@ module _ (gives other : Gives) where
       let rest : journal_of fits gives next es ≡ journal_of fits other next es =
       alike_run fits o.state.known (made + length o.reported.sealed) capacity es one.bounds one.few (omega (arith, one.views, room))
       (subst (λ (t : State). SealAlike gives other (made + length o.reported.sealed) (sealed_in (journal_of fits gives t es))) one.state halves.1) in
-      ap (λ (j : List Entry). record { event = e; turned = o.reported } ∷ j) (ap (λ (t : State). journal_of fits gives t es) one.state ∙ rest ∙ ap (λ (t : State). journal_of fits other t es) (sym one.state))
+      ap (λ (j : List Entry). record { event = e; turned = o.reported } ∷ j)
+      (ap (λ (t : State). journal_of fits gives t es) one.state ∙ rest ∙ ap (λ (t : State). journal_of fits other t es) (sym one.state))
       ∙ ap (λ (x : Outcome). record { event = e; turned = x.reported } ∷ journal_of fits other x.state es) now
 
 -- a statement's number is its place
@@ -223,6 +239,10 @@ counted fits gives k made capacity (e ∷ es) b few room =
     let o : Outcome = turn_of fits gives (state_of k made capacity) e in
     let one : Counts k made capacity o = one_turn fits gives k made capacity e b few room in
     let rest = counted fits gives o.state.known (made + length o.reported.sealed) capacity es one.bounds one.few (omega (arith, one.views, room)) in
-    let following = subst (λ (t : State). (state_after fits gives t es).made ≡ (made + length o.reported.sealed) + length (sealed_in (journal_of fits gives t es))) (sym one.state) rest in
-    let len : length (o.reported.sealed ++ sealed_in (journal_of fits gives o.state es)) ≡ length o.reported.sealed + length (sealed_in (journal_of fits gives o.state es)) = length-append o.reported.sealed (sealed_in (journal_of fits gives o.state es)) in
+    let following =
+    subst (λ (t : State). (state_after fits gives t es).made ≡ (made + length o.reported.sealed) + length (sealed_in (journal_of fits gives t es)))
+    (sym one.state) rest in
+    let len : length (o.reported.sealed ++ sealed_in (journal_of fits gives o.state es))
+    ≡ length o.reported.sealed + length (sealed_in (journal_of fits gives o.state es)) =
+    length-append o.reported.sealed (sealed_in (journal_of fits gives o.state es)) in
     omega (arith, following, len)

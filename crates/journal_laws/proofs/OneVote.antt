@@ -33,17 +33,22 @@ ballot_is known v d = first_at (is_for v d) known.boxes (empty_ballot known.sett
 with_vote_counts : (w : CertVote) (votes : List CertVote) → length (with_cert_vote w votes) ≡ length votes + 1
 with_vote_counts w votes = length-insert votes (place_in votes w.replica) w (count_by-le-length (λ (x : CertVote). nat_lt x.replica w.replica) votes)
 
-votes_more : (r : ℕ) (old new : List ℕ) (w : CertVote) (votes : List CertVote) → w.replica ≡ r → AreVotes old votes → IsOneMore r old new → AreVotes new (with_cert_vote w votes)
+votes_more : (r : ℕ) (old new : List ℕ) (w : CertVote) (votes : List CertVote) → w.replica ≡ r → AreVotes old votes → IsOneMore r old new
+    → AreVotes new (with_cert_vote w votes)
 votes_more r old new w votes own are more = record {
   count = omega (arith, more.one, are.count, with_vote_counts w votes);
-  among = λ q. more.among q ∙ ap (λ (t : Bool). (r == q) || t) (are.among q) ∙ rw (← own) (sym (any_inserted (λ (x : CertVote). x.replica == q) votes (place_in votes w.replica) w));
+  among = λ q. more.among q ∙ ap (λ (t : Bool). (r == q) || t) (are.among q)
+      ∙ rw (← own) (sym (any_inserted (λ (x : CertVote). x.replica == q) votes (place_in votes w.replica) w));
 }
 
 -- votes of a quorum, counted in the journal or in the box
-completes : (s : Parameters) (d : Digest) (voters : List ℕ) (count : ℕ) → length voters ≡ count → completed s d voters ≡ (if nat_lt count (quorum_of s) then None else Some d)
+completes : (s : Parameters) (d : Digest) (voters : List ℕ) (count : ℕ) → length voters ≡ count
+    → completed s d voters ≡ (if nat_lt count (quorum_of s) then None else Some d)
 completes s d voters count is = elim (cases_Bool (nat_lt count (quorum_of s))) [
-  | inl fewer ↦ rw (fewer, less_le (quorum_of s) (length voters) (let below : count < quorum_of s = ltb-true count (quorum_of s) fewer in omega (arith, is, below)))
-  | inr enough ↦ rw (enough, le-leb (quorum_of s) (length voters) (let above : quorum_of s ≤ count = ltb-false count (quorum_of s) enough in omega (arith, is, above)))
+  | inl fewer ↦
+      rw (fewer, less_le (quorum_of s) (length voters) (let below : count < quorum_of s = ltb-true count (quorum_of s) fewer in omega (arith, is, below)))
+  | inr enough ↦
+      rw (enough, le-leb (quorum_of s) (length voters) (let above : quorum_of s ≤ count = ltb-false count (quorum_of s) enough in omega (arith, is, above)))
 ]
   where
     less_le : (q n : ℕ) → n < q → nat_le q n ≡ false
@@ -57,7 +62,8 @@ completes s d voters count is = elim (cases_Bool (nat_lt count (quorum_of s))) [
 pub record IsKeptVote (known : Known) (v : ℕ) (d : Digest) (w : CertVote) (order : Option SealedOrder) (prior : List Shown) : Type 0 where
   pub none : formed known v d w order ≡ None
   pub untaken : completed known.setting d (voters v d prior) ≡ None
-  pub tied : VotesTied known.setting known.high.view (boxes_with (formed known v d w order) (others v d known.boxes) (with_vote w order (ballot_of known v d))) prior
+  pub tied : VotesTied known.setting known.high.view
+      (boxes_with (formed known v d w order) (others v d known.boxes) (with_vote w order (ballot_of known v d))) prior
 
 pub record IsCertified (known : Known) (v : ℕ) (d : Digest) (w : CertVote) (order : Option SealedOrder) (prior : List Shown) : Type 0 where
   pub made : Formed
@@ -104,7 +110,13 @@ module _ (known : Known) (v : ℕ) (d : Digest) (w : CertVote) (order : Option S
       absurd (cc)
 
   abbrev put : Ballot
-  put = record { view = box.view; block = box.block; votes = record box.votes { votes = with_cert_vote w box.votes.votes }; orders = with_carried order box.orders }
+  put =
+      record {
+        view = box.view;
+        block = box.block;
+        votes = record box.votes { votes = with_cert_vote w box.votes.votes };
+        orders = with_carried order box.orders;
+      }
 
   own_key : is_for v d put ≡ true
   own_key = box_key known.setting v d known.boxes
@@ -148,7 +160,8 @@ module _ (known : Known) (v : ℕ) (d : Digest) (w : CertVote) (order : Option S
         rw (another x c not, rest_other x c not) (tied.same x c (omega (arith, over, above))));
   }
 
-  wants : nat_lt (length (with_cert_vote w box.votes.votes)) (quorum_of box.votes.setting) ≡ nat_lt (length (with_cert_vote w box.votes.votes)) (quorum_of known.setting)
+  wants : nat_lt (length (with_cert_vote w box.votes.votes)) (quorum_of box.votes.setting)
+      ≡ nat_lt (length (with_cert_vote w box.votes.votes)) (quorum_of known.setting)
   wants = ap (λ (s : Parameters). nat_lt (length (with_cert_vote w box.votes.votes)) (quorum_of s)) is_open.setting
 
   abbrev few : Bool
@@ -169,7 +182,8 @@ module _ (known : Known) (v : ℕ) (d : Digest) (w : CertVote) (order : Option S
   put_is : few ≡ true → with_vote w order (ballot_of known v d) ≡ put
   put_is more = rw (ballot_is known v d, is_open.formed, unvoted, wants, more) refl
 
-  boxes_are : (t : Bool) → few ≡ t → boxes_with (formed known v d w order) (others v d known.boxes) (with_vote w order (ballot_of known v d)) ≡ (if t then rest ++ put ∷ [] else rest)
+  boxes_are : (t : Bool) → few ≡ t → boxes_with (formed known v d w order) (others v d known.boxes) (with_vote w order (ballot_of known v d))
+      ≡ (if t then rest ++ put ∷ [] else rest)
   boxes_are true is = rw (formed_is, is, others_are known v d, put_is is) refl
   boxes_are false is = rw (formed_is, is, others_are known v d) refl
 

@@ -48,7 +48,8 @@ state_of k made capacity = record { known = k; made = made; capacity = capacity 
 
 -- how many statements of the five kinds there are
 abbrev count_kinds : List (List ℕ) → ℕ
-count_kinds sealed = length (views_of NEW_VIEW sealed) + length (views_of ASK sealed) + length (views_of ORDER sealed) + length (views_of PROPOSE sealed) + length (views_of VOTE sealed)
+count_kinds sealed = length (views_of NEW_VIEW sealed) + length (views_of ASK sealed) + length (views_of ORDER sealed) + length
+    (views_of PROPOSE sealed) + length (views_of VOTE sealed)
 
 record SameAs (o other : Outcome) : Type 0 where
   reported : o.reported ≡ other.reported
@@ -82,7 +83,8 @@ module _ (gives : Gives) (made : ℕ) where
     keeps = λ c. refl;
   }
 
-  free_sealed : (k : Known) (statement receivers : List ℕ) → 1 ≡ count_kinds (statement ∷ []) → Free made (λ c. sealed_to gives (state_of k made c) statement receivers)
+  free_sealed : (k : Known) (statement receivers : List ℕ) → 1 ≡ count_kinds (statement ∷ [])
+      → Free made (λ c. sealed_to gives (state_of k made c) statement receivers)
   free_sealed k statement receivers one =
       let fits_two : nat_eq made (made + 2) ≡ false = unspent made (made + 2) (omega arith) in
       record {
@@ -96,7 +98,8 @@ module _ (gives : Gives) (made : ℕ) where
 
   -- nothing is done, or a block is fetched
   free_fetched : (k : Known) (from : ℕ) (d : Digest) → Free made (λ c. fetched_from from d (state_of k made c))
-  free_fetched k from d = record { count = omega arith; kinds = refl; same = λ c enough. record { reported = refl; known = refl; made = refl }; keeps = λ c. refl }
+  free_fetched k from d =
+      record { count = omega arith; kinds = refl; same = λ c enough. record { reported = refl; known = refl; made = refl }; keeps = λ c. refl }
 
   free_tick : (k : Known) (floor : ℕ) → Free made (λ c. on_tick gives (state_of k made c) floor)
   unfolding on_tick
@@ -138,7 +141,8 @@ module _ (gives : Gives) (made : ℕ) where
         kinds = rw (first, second) refl;
         same = λ c enough. (
             let least : made + 2 ≤ c = (rw (first, second) at enough) in
-            rw (first, second, unspent made c (omega (arith, least)), unspent (made + 1) c (omega (arith, least))) (record { reported = refl; known = refl; made = refl }));
+            rw (first, second, unspent made c (omega (arith, least)), unspent (made + 1) c (omega (arith, least)))
+            (record { reported = refl; known = refl; made = refl }));
         keeps = λ c. keep_if c (nat_eq made c) _ _ refl (keep_if c (nat_eq (made + 1) c) _ _ refl refl);
       }
 
@@ -160,7 +164,8 @@ module _ (gives : Gives) (made : ℕ) where
       let after : Known = taken b k in
       let voting_now : Known = record after { safety = record after.safety { voted = b.view } } in
       free_if made (nat_lt b.view k.views) _ _
-      (free_vote_for (ordering (b.view + 1) voting_now) b.view (block_digest b) (order_of_view (ordering (b.view + 1) voting_now) (b.view + 1) (block_digest b)))
+      (free_vote_for (ordering (b.view + 1) voting_now) b.view (block_digest b)
+      (order_of_view (ordering (b.view + 1) voting_now) (b.view + 1) (block_digest b)))
       (free_lone (record voting_now { view = b.view }) b.view (block_digest b))
 
   free_give : (k : Known) (b : Block) → Free made (λ c. give_done (state_of k made c) b)
@@ -181,7 +186,8 @@ module _ (gives : Gives) (made : ℕ) where
 
   free_fetch : (k : Known) (from : ℕ) (b : Option Block) → Free made (λ c. fetch_of (state_of k made c) from b)
   free_fetch k from None = free_quiet k Orphan
-  free_fetch k from (Some b) = record { count = omega arith; kinds = refl; same = λ c enough. record { reported = refl; known = refl; made = refl }; keeps = λ c. refl }
+  free_fetch k from (Some b) =
+      record { count = omega arith; kinds = refl; same = λ c enough. record { reported = refl; known = refl; made = refl }; keeps = λ c. refl }
 
   -- ---- by reasons
 
@@ -279,14 +285,16 @@ pub record Counts (k : Known) (made capacity : ℕ) (o : Outcome) : Type 0 where
   pub few : made + length o.reported.sealed ≤ marks o.state.known
   pub views : o.state.known.views ≡ k.views
 
-pub one_turn : (fits : Check) (gives : Gives) (k : Known) (made capacity : ℕ) (e : Event) → InBounds k → made ≤ marks k → 5 * k.views ≤ capacity → Counts k made capacity (turn_of fits gives (state_of k made capacity) e)
+pub one_turn : (fits : Check) (gives : Gives) (k : Known) (made capacity : ℕ) (e : Event) → InBounds k → made ≤ marks k
+    → 5 * k.views ≤ capacity → Counts k made capacity (turn_of fits gives (state_of k made capacity) e)
 one_turn fits gives k made capacity e b few room =
     let free = free_turn gives made fits k e in
     let most : Outcome = turn_of fits gives (state_of k made (made + 2)) e in
     let o : Outcome = turn_of fits gives (state_of k made capacity) e in
     let seals : Seals k most.reported.sealed most.state.known = turn_seals fits gives (state_of k made (made + 2)) e b in
     let raised : marks k + length most.reported.sealed ≤ marks most.state.known = seals_raise k most.state.known most.reported.sealed seals free.kinds in
-    let all : marks most.state.known ≤ 5 * k.views = omega (arith, seals.bounds.ordered, seals.bounds.proposed, seals.bounds.view, seals.bounds.asked, seals.bounds.voted, seals.views) in
+    let all : marks most.state.known ≤ 5 * k.views =
+    omega (arith, seals.bounds.ordered, seals.bounds.proposed, seals.bounds.view, seals.bounds.asked, seals.bounds.voted, seals.views) in
     let same : SameAs o most = free.same capacity (omega (arith, few, raised, all, room)) in
     let count : length most.reported.sealed ≡ length o.reported.sealed = ap (λ (t : Turned). length t.sealed) (sym same.reported) in
     let now : Seals k o.reported.sealed o.state.known = turn_seals fits gives (state_of k made capacity) e b in
@@ -304,24 +312,31 @@ one_turn fits gives k made capacity e b few room =
 -- With five seals for each view the journal is the same for any greater capacity, and no more seals are made.
 module _ (fits : Check) (gives : Gives) where
   pub same_journals : (k : Known) (made capacity other : ℕ) (events : List Event) → InBounds k → made ≤ marks k → 5 * k.views ≤ capacity → 5 * k.views ≤ other
-      → (journal_of fits gives (state_of k made capacity) events ≡ journal_of fits gives (state_of k made other) events) × ((state_after fits gives (state_of k made capacity) events).made ≤ 5 * k.views)
+      → (journal_of fits gives (state_of k made capacity) events ≡ journal_of fits gives (state_of k made other) events)
+      × ((state_after fits gives (state_of k made capacity) events).made ≤ 5 * k.views)
   same_journals k made capacity other [] b few room more = (refl, omega (arith, few, b.ordered, b.proposed, b.view, b.asked, b.voted))
   same_journals k made capacity other (e ∷ es) b few room more =
       let free = free_turn gives made fits k e in
       let o : Outcome = turn_of fits gives (state_of k made (made + 2)) e in
       let seals : Seals k o.reported.sealed o.state.known = turn_seals fits gives (state_of k made (made + 2)) e b in
       let raised : marks k + length o.reported.sealed ≤ marks o.state.known = seals_raise k o.state.known o.reported.sealed seals free.kinds in
-      let all : marks o.state.known ≤ 5 * k.views = omega (arith, seals.bounds.ordered, seals.bounds.proposed, seals.bounds.view, seals.bounds.asked, seals.bounds.voted, seals.views) in
+      let all : marks o.state.known ≤ 5 * k.views =
+      omega (arith, seals.bounds.ordered, seals.bounds.proposed, seals.bounds.view, seals.bounds.asked, seals.bounds.voted, seals.views) in
       let one : SameAs (turn_of fits gives (state_of k made capacity) e) o = free.same capacity (omega (arith, few, raised, all, room)) in
       let two : SameAs (turn_of fits gives (state_of k made other) e) o = free.same other (omega (arith, few, raised, all, more)) in
-      let rest = same_journals o.state.known o.state.made capacity other es seals.bounds (omega (arith, free.count, few, raised)) (omega (arith, seals.views, room)) (omega (arith, seals.views, more)) in
-      let state_one : (turn_of fits gives (state_of k made capacity) e).state ≡ state_of o.state.known o.state.made capacity = whole (turn_of fits gives (state_of k made capacity) e).state o.state.known o.state.made capacity one.known one.made (free.keeps capacity) in
-      let state_two : (turn_of fits gives (state_of k made other) e).state ≡ state_of o.state.known o.state.made other = whole (turn_of fits gives (state_of k made other) e).state o.state.known o.state.made other two.known two.made (free.keeps other) in (
+      let rest = same_journals o.state.known o.state.made capacity other es seals.bounds (omega (arith, free.count, few, raised))
+      (omega (arith, seals.views, room)) (omega (arith, seals.views, more)) in
+      let state_one : (turn_of fits gives (state_of k made capacity) e).state ≡ state_of o.state.known o.state.made capacity =
+      whole (turn_of fits gives (state_of k made capacity) e).state o.state.known o.state.made capacity one.known one.made
+      (free.keeps capacity) in
+      let state_two : (turn_of fits gives (state_of k made other) e).state ≡ state_of o.state.known o.state.made other =
+      whole (turn_of fits gives (state_of k made other) e).state o.state.known o.state.made other two.known two.made (free.keeps other) in (
         ap (λ (t : Turned). record { event = e; turned = t } ∷ journal_of fits gives (turn_of fits gives (state_of k made capacity) e).state es) one.reported
             ∙ ap (λ (s : State). record { event = e; turned = o.reported } ∷ journal_of fits gives s es) state_one
             ∙ ap (λ (j : List Entry). record { event = e; turned = o.reported } ∷ j) rest.0
             ∙ sym (ap (λ (s : State). record { event = e; turned = o.reported } ∷ journal_of fits gives s es) state_two)
-            ∙ sym (ap (λ (t : Turned). record { event = e; turned = t } ∷ journal_of fits gives (turn_of fits gives (state_of k made other) e).state es) two.reported),
+            ∙ sym (ap (λ (t : Turned). record { event = e; turned = t } ∷ journal_of fits gives (turn_of fits gives (state_of k made other) e).state es)
+            two.reported),
         subst (λ (s : State). (state_after fits gives s es).made ≤ 5 * k.views) (sym state_one) (omega (arith, rest.1, seals.views)),
       )
     where

@@ -63,10 +63,12 @@ higher_view high cert = elim (cases_Bool (nat_lt high.view cert.view)) [
 
 -- a stored block that is not stored with another view
 module _ (s : Parameters) (known : Known) (blocks : List Block) (arrived : List Tx) (prior : List Shown) (tied : TiedTo s known blocks arrived prior) where
-  pub found_with : (d : Digest) (v : ℕ) → is_stored known.store d ≡ true → is_stored_elsewhere known d v ≡ false → (b : Named) × (at known.store d ≡ Some b) × (b.view ≡ v)
+  pub found_with : (d : Digest) (v : ℕ) → is_stored known.store d ≡ true → is_stored_elsewhere known d v ≡ false
+      → (b : Named) × (at known.store d ≡ Some b) × (b.view ≡ v)
   found_with d v stored_there same =
       let b = stored_found known.store d stored_there in
-      let one : is_stored_elsewhere known d v ≡ not (nat_eq b.0.view v) = ap (λ o. option_map_or (λ (w : ℕ). not (nat_eq w v)) o false) (view_found known.store d b.0 b.1) in
+      let one : is_stored_elsewhere known d v ≡ not (nat_eq b.0.view v) =
+      ap (λ o. option_map_or (λ (w : ℕ). not (nat_eq w v)) o false) (view_found known.store d b.0 b.1) in
       (b.0, b.1, equal b.0.view v (sym one ∙ same))
     where
       equal : (m n : ℕ) → not (nat_eq m n) ≡ false → m ≡ n
@@ -81,7 +83,8 @@ module _ (s : Parameters) (known : Known) (blocks : List Block) (arrived : List 
       shown_inside [] d b found = absurd (cc)
       shown_inside (x ∷ bs) d b found = by (digest_eq x.digest d) refl found (shown_inside bs d b)
         where
-          by : (t : Bool) → digest_eq x.digest d ≡ t → cond t (Some x) (shown_at bs d) ≡ Some b → (shown_at bs d ≡ Some b → Contains bs b × (b.digest ≡ d)) → Contains (x ∷ bs) b × (b.digest ≡ d)
+          by : (t : Bool) → digest_eq x.digest d ≡ t → cond t (Some x) (shown_at bs d) ≡ Some b
+              → (shown_at bs d ≡ Some b → Contains bs b × (b.digest ≡ d)) → Contains (x ∷ bs) b × (b.digest ≡ d)
           by true is one later = let same : x ≡ b = cc in subst (λ (y : Named). Contains (x ∷ bs) y × (y.digest ≡ d)) same (here x bs, same_true x.digest d is)
           by false is one later = let q = later one in (there x bs b q.0, q.1)
 
@@ -97,19 +100,23 @@ module _ (s : Parameters) (known : Known) (blocks : List Block) (arrived : List 
   lawful_with : (x : Shown) → x.sealed ≡ [] → (x.is_done ≡ true → MayBeDone s prior x.message) → KeepsVotingRule s (prior ++ x ∷ [])
   lawful_with x none done =
       lawful_more s prior x known.safety.voted tied.lawful done (no_votes x none) tied.voted
-      (subst (λ (bs : List Ballot). AllPairs (λ a b. a.view < b.view) (sealed_in prior ++ bs)) (sym none) (subst (AllPairs (λ a b. a.view < b.view)) (sym (append-nil (sealed_in prior))) tied.lawful.ascending))
+      (subst (λ (bs : List Ballot). AllPairs (λ a b. a.view < b.view) (sealed_in prior ++ bs)) (sym none)
+      (subst (AllPairs (λ a b. a.view < b.view)) (sym (append-nil (sealed_in prior))) tied.lawful.ascending))
 
   module _ (laws : AllMove) (next : Known) where
     -- an entry that delivers no certificate, no block and no vote
-    pub next_still : (more : List Tx) (x : Shown) → x.sealed ≡ [] → (x.is_done ≡ true → MayBeDone s prior x.message) → stored_by x ≡ None → ((v : ℕ) (d : Digest) → voter_by v d x ≡ None)
-        → taken_by s (prior ++ x ∷ []) x ≡ None → next.setting ≡ known.setting → next.store ≡ known.store → next.safety ≡ known.safety → next.boxes ≡ known.boxes → next.high ≡ known.high
+    pub next_still : (more : List Tx) (x : Shown) → x.sealed ≡ [] → (x.is_done ≡ true → MayBeDone s prior x.message) → stored_by x ≡ None
+        → ((v : ℕ) (d : Digest) → voter_by v d x ≡ None)
+        → taken_by s (prior ++ x ∷ []) x ≡ None → next.setting ≡ known.setting → next.store ≡ known.store → next.safety ≡ known.safety
+        → next.boxes ≡ known.boxes → next.high ≡ known.high
         → next.prefix ≡ known.prefix ++ more → TiedTo s next blocks (arrived ++ more) (prior ++ x ∷ [])
     next_still more x none done unstored unvoted untaken setting store safety boxes high prefix =
         let lawful : KeepsVotingRule s (prior ++ x ∷ []) = lawful_with x none done in
         record {
           setting = setting ∙ tied.setting;
           store = store ∙ tied.store;
-          safe = rw (store, safety, high) (still laws s known.store known.safety known.high.view prior x tied.safe lawful unstored untaken known.high.view (omega arith));
+          safe = rw (store, safety, high)
+              (still laws s known.store known.safety known.high.view prior x tied.safe lawful unstored untaken known.high.view (omega arith));
           votes = rw (boxes, high) (no_vote_ties s known.high.view known.high.view known.boxes prior x (omega arith) unvoted tied.votes);
           prefix = prefix ∙ ap (λ (ts : List Tx). ts ++ more) tied.prefix;
           voted = rw (safety, votes_none x none) tied.voted;
@@ -117,17 +124,21 @@ module _ (s : Parameters) (known : Known) (blocks : List Block) (arrived : List 
         }
 
     -- an entry that delivers a certificate for a stored block, and nothing else
-    pub next_seen : (cert : Cert) (b : Named) (x : Shown) → x.sealed ≡ [] → (x.is_done ≡ true → MayBeDone s prior x.message) → stored_by x ≡ None → ((v : ℕ) (d : Digest) → voter_by v d x ≡ None)
+    pub next_seen : (cert : Cert) (b : Named) (x : Shown) → x.sealed ≡ [] → (x.is_done ≡ true → MayBeDone s prior x.message)
+        → stored_by x ≡ None → ((v : ℕ) (d : Digest) → voter_by v d x ≡ None)
         → taken_by s (prior ++ x ∷ []) x ≡ Some cert.block → at known.store cert.block ≡ Some b → b.view ≡ cert.view
-        → next.setting ≡ known.setting → next.store ≡ known.store → next.safety ≡ seen_in known.store cert.view cert.block known.safety → next.boxes ≡ known.boxes
-        → next.high ≡ (if nat_lt known.high.view cert.view then cert else known.high) → next.prefix ≡ known.prefix → TiedTo s next blocks arrived (prior ++ x ∷ [])
+        → next.setting ≡ known.setting → next.store ≡ known.store → next.safety ≡ seen_in known.store cert.view cert.block known.safety
+        → next.boxes ≡ known.boxes
+        → next.high ≡ (if nat_lt known.high.view cert.view then cert else known.high) → next.prefix ≡ known.prefix
+        → TiedTo s next blocks arrived (prior ++ x ∷ [])
     next_seen cert b x none done unstored unvoted takes found is_view setting store safety boxes high prefix =
         let lawful : KeepsVotingRule s (prior ++ x ∷ []) = lawful_with x none done in
         let above : max known.high.view cert.view ≡ next.high.view = high_is ∙ sym (ap (λ (c : Cert). c.view) high) in
         record {
           setting = setting ∙ tied.setting;
           store = store ∙ tied.store;
-          safe = rw (store, safety) (sees laws s known.store known.safety known.high.view prior x tied.safe lawful cert.block cert.view b found is_view takes next.high.view (omega (arith, above))
+          safe = rw (store, safety) (sees laws s known.store known.safety known.high.view prior x tied.safe lawful cert.block cert.view b
+              found is_view takes next.high.view (omega (arith, above))
               known.store (subst (IsTied known.store) (sym (stored_same prior x unstored)) tied.safe.stores) (λ d n is. is));
           votes = rw boxes (no_vote_ties s known.high.view next.high.view known.boxes prior x (omega (arith, above)) unvoted tied.votes);
           prefix = prefix ∙ tied.prefix;
@@ -139,7 +150,8 @@ module _ (s : Parameters) (known : Known) (blocks : List Block) (arrived : List 
         high_is = higher_view known.high cert
 
     -- an entry that delivers a vote
-    pub next_vote : (r v : ℕ) (d : Digest) (b : Named) (w : CertVote) (order : Option SealedOrder) → w.replica ≡ r → r < s.n → at known.store d ≡ Some b → b.view ≡ v
+    pub next_vote : (r v : ℕ) (d : Digest) (b : Named) (w : CertVote) (order : Option SealedOrder) → w.replica ≡ r → r < s.n
+        → at known.store d ≡ Some b → b.view ≡ v
         → known.high.view < v → has_voted known.boxes v d r ≡ false
         → next.setting ≡ known.setting → next.store ≡ known.store → next.prefix ≡ known.prefix
         → next.boxes ≡ boxes_with (formed known v d w order) (others v d known.boxes) (with_vote w order (ballot_of known v d))
@@ -148,31 +160,40 @@ module _ (s : Parameters) (known : Known) (blocks : List Block) (arrived : List 
         × (next.high ≡ (if nat_lt known.high.view f.cert.view then f.cert else known.high)))
         → TiedTo s next blocks arrived (prior ++ vote_entry r v d ∷ [])
     next_vote r v d b w order own below found is_view over new setting store prefix boxes if_none if_some =
-        elim (vote_ties known v d w order prior (vote_entry r v d) (subst (λ (p : Parameters). VotesTied p known.high.view known.boxes prior) (sym tied.setting) tied.votes) over (rw own new)
+        elim (vote_ties known v d w order prior (vote_entry r v d)
+        (subst (λ (p : Parameters). VotesTied p known.high.view known.boxes prior) (sym tied.setting) tied.votes) over (rw own new)
         (λ y c. rw own refl)) [
           | inl k ↦
               let same = if_none k.none in
-              let untaken : taken_by s (prior ++ vote_entry r v d ∷ []) (vote_entry r v d) ≡ None = subst (λ (p : Parameters). completed p d (voters v d (prior ++ vote_entry r v d ∷ [])) ≡ None) tied.setting k.untaken in
+              let untaken : taken_by s (prior ++ vote_entry r v d ∷ []) (vote_entry r v d) ≡ None =
+              subst (λ (p : Parameters). completed p d (voters v d (prior ++ vote_entry r v d ∷ [])) ≡ None) tied.setting k.untaken in
               record {
                 setting = setting ∙ tied.setting;
                 store = store ∙ tied.store;
-                safe = rw (store, same.0, same.1) (still laws s known.store known.safety known.high.view prior (vote_entry r v d) tied.safe lawful refl untaken known.high.view (omega arith));
-                votes = rw (boxes, same.1) (subst (λ (p : Parameters). VotesTied p known.high.view (boxes_with (formed known v d w order) (others v d known.boxes) (with_vote w order (ballot_of known v d))) (prior ++ vote_entry r v d ∷ [])) tied.setting k.tied);
+                safe = rw (store, same.0, same.1) (still laws s known.store known.safety known.high.view prior
+                    (vote_entry r v d) tied.safe lawful refl untaken known.high.view (omega arith));
+                votes = rw (boxes, same.1) (subst (λ (p : Parameters). VotesTied p known.high.view
+                    (boxes_with (formed known v d w order) (others v d known.boxes) (with_vote w order (ballot_of known v d)))
+                    (prior ++ vote_entry r v d ∷ [])) tied.setting k.tied);
                 prefix = prefix ∙ tied.prefix;
                 voted = rw (same.0, votes_none (vote_entry r v d) refl) tied.voted;
                 lawful = lawful;
               }
           | inr k ↦
               let same = if_some k.made k.some in
-              let takes : taken_by s (prior ++ vote_entry r v d ∷ []) (vote_entry r v d) ≡ Some d = subst (λ (p : Parameters). completed p d (voters v d (prior ++ vote_entry r v d ∷ [])) ≡ Some d) tied.setting k.taken in
+              let takes : taken_by s (prior ++ vote_entry r v d ∷ []) (vote_entry r v d) ≡ Some d =
+              subst (λ (p : Parameters). completed p d (voters v d (prior ++ vote_entry r v d ∷ [])) ≡ Some d) tied.setting k.taken in
               let high : next.high.view ≡ v = ap (λ (c : Cert). c.view) same.1 ∙ sym (higher_view known.high k.made.cert) ∙ rw k.view (omega (arith, over)) in
               let safety : next.safety ≡ seen_in known.store v d known.safety = same.0 ∙ rw (k.view, k.block) refl in
               record {
                 setting = setting ∙ tied.setting;
                 store = store ∙ tied.store;
-                safe = rw (store, safety, high) (sees laws s known.store known.safety known.high.view prior (vote_entry r v d) tied.safe lawful d v b found is_view takes v (omega (arith, over))
+                safe = rw (store, safety, high) (sees laws s known.store known.safety known.high.view prior
+                    (vote_entry r v d) tied.safe lawful d v b found is_view takes v (omega (arith, over))
                     known.store (subst (IsTied known.store) (sym (stored_same prior (vote_entry r v d) refl)) tied.safe.stores) (λ e n is. is));
-                votes = rw (boxes, high) (subst (λ (p : Parameters). VotesTied p v (boxes_with (formed known v d w order) (others v d known.boxes) (with_vote w order (ballot_of known v d))) (prior ++ vote_entry r v d ∷ [])) tied.setting k.tied);
+                votes = rw (boxes, high) (subst (λ (p : Parameters).
+                    VotesTied p v (boxes_with (formed known v d w order) (others v d known.boxes) (with_vote w order (ballot_of known v d)))
+                    (prior ++ vote_entry r v d ∷ [])) tied.setting k.tied);
                 prefix = prefix ∙ tied.prefix;
                 voted = rw (safety, votes_none (vote_entry r v d) refl) tied.voted;
                 lawful = lawful;
@@ -183,13 +204,16 @@ module _ (s : Parameters) (known : Known) (blocks : List Block) (arrived : List 
         lawful = lawful_with (vote_entry r v d) refl (λ done. (below, shown_stored d b v found is_view))
 
     -- The voting rule, as the laws of agreement state it.
-    pub rule_shown : (b : Block) (n : Named) → at known.store b.cert.block ≡ Some n → (block_digest b ≡ first_digest → ⊥) → is_safe known.store known.safety b ≡ true
+    pub rule_shown : (b : Block) (n : Named) → at known.store b.cert.block ≡ Some n → (block_digest b ≡ first_digest → ⊥)
+        → is_safe known.store known.safety b ≡ true
         → LeadsTo (stored prior) (named b) (lock s prior) ⊎ ((lock s prior).view < b.cert.view)
     rule_shown b n found other safe = elim (or_cases (nat_lt (view_at known.store known.safety.lock) b.cert.view) _ safe) [
-      | inl above ↦ inr (let less : view_at known.store known.safety.lock < b.cert.view = ltb-true _ _ above in subst (λ (v : ℕ). v < b.cert.view) (at_view known.store known.safety.lock (lock s prior) tied.safe.at_lock) less)
+      | inl above ↦ inr (let less : view_at known.store known.safety.lock < b.cert.view = ltb-true _ _ above in
+          subst (λ (v : ℕ). v < b.cert.view) (at_view known.store known.safety.lock (lock s prior) tied.safe.at_lock) less)
       | inr on ↦ elim (or_cases (extends known.store b.cert.block known.safety.lock) (is_at known.store known.safety.lock b) on) [
         | inl following ↦
-            let steps = leads known.store (stored prior) tied.safe.stores (length known.store) b.cert.block known.safety.lock n (lock s prior) found tied.safe.at_lock
+            let steps = leads known.store (stored prior) tied.safe.stores (length known.store) b.cert.block known.safety.lock n
+            (lock s prior) found tied.safe.at_lock
             (and_parts (is_stored known.store b.cert.block) (reaches (length known.store) known.store b.cert.block known.safety.lock) following).1 in
             inl (suc steps.0, (n, parent_is, steps.1))
         | inr itself ↦ inl (0, is_lock (block_at known.store known.safety.lock) refl itself)
@@ -213,24 +237,30 @@ module _ (s : Parameters) (known : Known) (blocks : List Block) (arrived : List 
             ap named (sym y_is ∙ sym z_is) ∙ one)
 
     -- an entry that delivers a block, and perhaps votes for it
-    pub next_block : (b : Block) (n : Named) (x : Shown) → ((d : Digest) (y : Block) → block_at known.store d ≡ Some y → block_at (with_block b known.store) d ≡ Some y)
+    pub next_block : (b : Block) (n : Named) (x : Shown)
+        → ((d : Digest) (y : Block) → block_at known.store d ≡ Some y → block_at (with_block b known.store) d ≡ Some y)
         → block_at (with_block b known.store) (block_digest b) ≡ Some b → clashes known.store (block_digest b) b ≡ false
         → at known.store b.cert.block ≡ Some n → n.view ≡ b.cert.view → b.cert.view < b.view
         → stored_by x ≡ Some (named b) → ((v : ℕ) (d : Digest) → voter_by v d x ≡ None) → taken_by s (prior ++ x ∷ []) x ≡ Some b.cert.block
         → (x.is_done ≡ true → MayBeDone s prior x.message)
-        → All (IsLawfulVote s prior x) x.sealed → All (λ w. known.safety.voted < w.view) x.sealed → All (λ w. w.view ≤ next.safety.voted) x.sealed → length x.sealed ≤ 1
+        → All (IsLawfulVote s prior x) x.sealed → All (λ w. known.safety.voted < w.view) x.sealed
+        → All (λ w. w.view ≤ next.safety.voted) x.sealed → length x.sealed ≤ 1
         → known.safety.voted ≤ next.safety.voted
-        → next.setting ≡ known.setting → next.store ≡ with_block b known.store → next.safety.lock ≡ (seen_in known.store b.cert.view b.cert.block known.safety).lock
+        → next.setting ≡ known.setting → next.store ≡ with_block b known.store
+        → next.safety.lock ≡ (seen_in known.store b.cert.view b.cert.block known.safety).lock
         → next.safety.committed ≡ (seen_in known.store b.cert.view b.cert.block known.safety).committed → next.boxes ≡ known.boxes
         → next.high ≡ (if nat_lt known.high.view b.cert.view then b.cert else known.high) → next.prefix ≡ known.prefix
         → TiedTo s next (with_block b blocks) arrived (prior ++ x ∷ [])
-    next_block b n x stays new alone found is_view below stores_b unvoted takes done votes fresh voted one above setting store lock_is commit_is boxes high prefix =
+    next_block b n x stays new alone found is_view below stores_b unvoted takes done votes fresh voted one above setting store lock_is
+        commit_is boxes high prefix =
         let higher : max known.high.view b.cert.view ≡ next.high.view = higher_view known.high b.cert ∙ sym (ap (λ (c : Cert). c.view) high) in
         let lawful : KeepsVotingRule s (prior ++ x ∷ []) = lawful_more s prior x known.safety.voted tied.lawful done votes tied.voted ascending in
         let after : List Block = with_block b known.store in
-        let ties : IsTied after (stored (prior ++ x ∷ [])) = subst (IsTied after) (sym (stored_more prior x (named b) stores_b)) (grows known.store b stays new alone (stored prior) tied.safe.stores n found is_view below) in
+        let ties : IsTied after (stored (prior ++ x ∷ [])) = subst (IsTied after) (sym (stored_more prior x (named b) stores_b))
+        (grows known.store b stays new alone (stored prior) tied.safe.stores n found is_view below) in
         let saw : SafeTied s after (seen_in known.store b.cert.view b.cert.block known.safety) next.high.view (prior ++ x ∷ []) =
-        sees laws s known.store known.safety known.high.view prior x tied.safe lawful b.cert.block b.cert.view n found is_view takes next.high.view (omega (arith, higher)) after ties (at_stays known.store b stays new alone) in
+        sees laws s known.store known.safety known.high.view prior x tied.safe lawful b.cert.block b.cert.view n found is_view takes
+        next.high.view (omega (arith, higher)) after ties (at_stays known.store b stays new alone) in
         record {
           setting = setting ∙ tied.setting;
           store = store ∙ ap (with_block b) tied.store;
@@ -243,7 +273,8 @@ module _ (s : Parameters) (known : Known) (blocks : List Block) (arrived : List 
           votes = rw boxes (no_vote_ties s known.high.view next.high.view known.boxes prior x (omega (arith, higher)) unvoted tied.votes);
           prefix = prefix ∙ tied.prefix;
           voted = subst (All (λ w. w.view ≤ next.safety.voted)) (sym sealed_is)
-              (All-append (λ w. w.view ≤ next.safety.voted) (sealed_in prior) x.sealed (All-weaker (λ w. w.view ≤ known.safety.voted) (λ w. w.view ≤ next.safety.voted) (λ w le. omega (arith, le, above)) (sealed_in prior) tied.voted) voted);
+              (All-append (λ w. w.view ≤ next.safety.voted) (sealed_in prior) x.sealed (All-weaker (λ w. w.view ≤ known.safety.voted)
+              (λ w. w.view ≤ next.safety.voted) (λ w le. omega (arith, le, above)) (sealed_in prior) tied.voted) voted);
           lawful = lawful;
         }
       where
@@ -253,7 +284,8 @@ module _ (s : Parameters) (known : Known) (blocks : List Block) (arrived : List 
         ascending : AllPairs (λ a b. a.view < b.view) (sealed_in prior ++ x.sealed)
         ascending = with_sealed x.sealed fresh one
           where
-            with_sealed : (bs : List Ballot) → All (λ w. known.safety.voted < w.view) bs → length bs ≤ 1 → AllPairs (λ a b. a.view < b.view) (sealed_in prior ++ bs)
+            with_sealed : (bs : List Ballot) → All (λ w. known.safety.voted < w.view) bs → length bs ≤ 1
+                → AllPairs (λ a b. a.view < b.view) (sealed_in prior ++ bs)
             with_sealed [] fresh one = subst (AllPairs (λ a b. a.view < b.view)) (sym (append-nil (sealed_in prior))) tied.lawful.ascending
             with_sealed (w ∷ []) fresh one =
                 let over : known.safety.voted < w.view = All-head (λ w. known.safety.voted < w.view) w [] fresh in

@@ -47,7 +47,8 @@ use Rattle.journal_laws.proofs.Marks.{rise_on, InBounds, Seals, SealsIn, forget,
 use Rattle.journal_laws.proofs.Tests.{viewed, is_below}
 
 -- Only the mark of the view increases, if any does.
-view_rises : (s t : Known) → InBounds s → t.views ≡ s.views → t.asked ≡ s.asked → t.ordered ≡ s.ordered → t.proposed ≡ s.proposed → t.safety.voted ≡ s.safety.voted → s.view ≤ t.view → t.view ≤ s.views → Goes s t
+view_rises : (s t : Known) → InBounds s → t.views ≡ s.views → t.asked ≡ s.asked → t.ordered ≡ s.ordered → t.proposed ≡ s.proposed
+    → t.safety.voted ≡ s.safety.voted → s.view ≤ t.view → t.view ≤ s.views → Goes s t
 view_rises s t b views asked ordered proposed voted above below = record {
   bounds = record {
     ordered = omega (arith, b.ordered, ordered, above);
@@ -75,15 +76,19 @@ tick_seals : (gives : Gives) (s : State) (floor : ℕ) → InBounds s.known → 
 unfolding on_tick
 tick_seals gives s floor b = by (nat_le s.known.views (max s.known.view floor)) refl
   where
-    by : (t : Bool) → nat_le s.known.views (max s.known.view floor) ≡ t → SealsIn s.known (if t then quiet s ViewLimit else calls gives (knowing s (record s.known { view = max s.known.view floor + 1 })))
+    by : (t : Bool) → nat_le s.known.views (max s.known.view floor) ≡ t
+        → SealsIn s.known (if t then quiet s ViewLimit else calls gives (knowing s (record s.known { view = max s.known.view floor + 1 })))
     by true is = nothing s.known s.known (stays s.known b)
     by false is =
         let below : max s.known.view floor < s.known.views = leb-false _ _ is in
         let now : Known = record s.known { view = max s.known.view floor + 1 } in
         let goes : Goes s.known now = view_rises s.known now b refl refl refl refl refl (omega arith) (omega (arith, below)) in
-        one_sealed s.known gives (knowing s now) (call_spelling NEW_VIEW s.known.me (max s.known.view floor + 1) s.known.high) (leader_of s.known.setting (max s.known.view floor + 1) ∷ []) (a_call s.known now s.known.me (max s.known.view floor + 1) (omega (arith, below, b.wide)) goes s.known.high (omega arith) (omega arith))
+        one_sealed s.known gives (knowing s now) (call_spelling NEW_VIEW s.known.me (max s.known.view floor + 1) s.known.high)
+        (leader_of s.known.setting (max s.known.view floor + 1) ∷ [])
+        (a_call s.known now s.known.me (max s.known.view floor + 1) (omega (arith, below, b.wide)) goes s.known.high (omega arith) (omega arith))
 
-new_view_seals : (fits : Check) (gives : Gives) (s : State) (from : ℕ) (call : Call) → InBounds s.known → Passes (new_view_rows fits s.known from call) → SealsIn s.known (new_view_done gives s from call)
+new_view_seals : (fits : Check) (gives : Gives) (s : State) (from : ℕ) (call : Call) → InBounds s.known
+    → Passes (new_view_rows fits s.known from call) → SealsIn s.known (new_view_done gives s from call)
 unfolding new_view_done
 new_view_seals fits gives s from call b p =
     let fit : (0 < call.view) × (call.view ≤ s.known.views) = viewed s.known call.view p.1.0 in
@@ -95,7 +100,15 @@ new_view_seals fits gives s from call b p =
     let seen_now : Goes s.known after = seen_joined earlier fit.1 in
     let next : Known = asked_for call.view after in
     let goes : Goes s.known next = record {
-      bounds = record { ordered = omega (arith, b.ordered, above); proposed = omega (arith, b.proposed, asked); view = fit.1; asked = fit.1; voted = b.voted; wide = b.wide };
+      bounds =
+          record {
+            ordered = omega (arith, b.ordered, above);
+            proposed = omega (arith, b.proposed, asked);
+            view = fit.1;
+            asked = fit.1;
+            voted = b.voted;
+            wide = b.wide;
+          };
       views = refl;
       view = above;
       asked = omega (arith, asked);
@@ -104,13 +117,15 @@ new_view_seals fits gives s from call b p =
       voted = omega arith;
     } in
     if_seals s.known (nat_eq (callers_of after.gathered call.view) (quorum_of after.setting)) _ _
-    (one_sealed s.known gives (knowing (knowing s after) next) _ _ (an_ask s.known next s.known.me call.view (omega (arith, fit.1, b.wide)) goes next.high asked (omega arith)))
+    (one_sealed s.known gives (knowing (knowing s after) next)
+    _ _ (an_ask s.known next s.known.me call.view (omega (arith, fit.1, b.wide)) goes next.high asked (omega arith)))
     (nothing s.known after seen_now)
   where
     seen_joined : call.cert.view < call.view → call.view ≤ s.known.views → Goes s.known (joined from call s.known)
     seen_joined earlier below = view_rises s.known (joined from call s.known) b refl refl refl refl refl (omega arith) (omega (arith, b.view, earlier, below))
 
-ask_seals : (fits : Check) (gives : Gives) (s : State) (from : ℕ) (call : Call) → InBounds s.known → Passes (ask_rows fits s.known from call) → SealsIn s.known (ask_done gives s from call)
+ask_seals : (fits : Check) (gives : Gives) (s : State) (from : ℕ) (call : Call) → InBounds s.known
+    → Passes (ask_rows fits s.known from call) → SealsIn s.known (ask_done gives s from call)
 unfolding ask_done
 ask_seals fits gives s from call b p =
     let fit : (0 < call.view) × (call.view ≤ s.known.views) = viewed s.known call.view p.1.0 in
@@ -131,7 +146,8 @@ ask_seals fits gives s from call b p =
     (let order : LocalOrder = order_of_view after call.view call.cert.block in
     an_order s.known after s.known.me call.view (omega (arith, fit.1, b.wide)) goes order.parent order.fresh order.late unordered (omega arith))
 
-order_seals : (fits : Check) (gives : Gives) (s : State) (from : ℕ) (sealed : SealedOrder) → InBounds s.known → Passes (order_rows fits s.known from sealed) → SealsIn s.known (order_done gives s sealed)
+order_seals : (fits : Check) (gives : Gives) (s : State) (from : ℕ) (sealed : SealedOrder) → InBounds s.known
+    → Passes (order_rows fits s.known from sealed) → SealsIn s.known (order_done gives s sealed)
 unfolding order_done proposal
 order_seals fits gives s from sealed b p =
     let old = or_parts (not (nat_eq sealed.order.view s.known.asked)) _ p.1.1.1.0 in
@@ -152,14 +168,16 @@ order_seals fits gives s from sealed b p =
             proposed = b.proposed;
             voted = omega arith;
           } in
-          one_sealed s.known gives (knowing s after) _ _ (a_proposal s.known after s.known.me s.known.asked (omega (arith, b.asked, b.wide)) goes s.known.ask_cert (with_order sealed s.known.orders) below (omega arith)))
+          one_sealed s.known gives (knowing s after) _ _ (a_proposal s.known after s.known.me s.known.asked
+          (omega (arith, b.asked, b.wide)) goes s.known.ask_cert (with_order sealed s.known.orders) below (omega arith)))
       | inr few ↦ rw few (
           let after : Known = record s.known { orders = with_order sealed s.known.orders } in
           nothing s.known after (view_rises s.known after b refl refl refl refl refl (omega arith) b.view))
     ]
 
 -- a vote, with the order that it carries below the last view
-voted_seals : (gives : Gives) (old : Known) (s : State) (v : ℕ) (block : Digest) → InBounds s.known → Goes old s.known → s.known.safety.voted ≡ old.safety.voted → s.known.ordered ≡ old.ordered
+voted_seals : (gives : Gives) (old : Known) (s : State) (v : ℕ) (block : Digest) → InBounds s.known → Goes old s.known
+    → s.known.safety.voted ≡ old.safety.voted → s.known.ordered ≡ old.ordered
     → old.safety.voted < v → s.known.view ≤ v → v ≤ s.known.views → SealsIn old (voted gives s v block)
 unfolding voted
 voted_seals gives old s v block b goes same_voted same_ordered fresh above below = by (nat_lt v s.known.views) refl
@@ -182,7 +200,8 @@ voted_seals gives old s v block b goes same_voted same_ordered fresh above below
         } in
         let order : LocalOrder = order_of_view next (v + 1) block in
         let whole : Seals old (vote_spelling s.known.me v block ∷ order_spelling order ∷ []) next =
-        vote_with_order old next s.known.me v (omega (arith, lower, b.wide)) on block order.parent order.fresh order.late fresh (omega arith) (omega (arith, lower, b.wide)) (omega (arith, same_ordered, b.ordered, above)) (omega arith) in
+        vote_with_order old next s.known.me v (omega (arith, lower, b.wide)) on block order.parent order.fresh order.late fresh
+        (omega arith) (omega (arith, lower, b.wide)) (omega (arith, same_ordered, b.ordered, above)) (omega arith) in
         let none : Seals old [] next = forget old _ next whole in
         if_seals old (is_spent (knowing s next)) _ _ none (if_seals old (is_spent (one_more_made (knowing s next))) _ _ none whole)
     by false is =
@@ -196,10 +215,12 @@ voted_seals gives old s v block b goes same_voted same_ordered fresh above below
           proposed = goes.proposed;
           voted = omega (arith, fresh);
         } in
-        let whole : Seals old (vote_spelling s.known.me v block ∷ []) next = a_vote old next s.known.me v (omega (arith, below, b.wide)) on block fresh (omega arith) in
+        let whole : Seals old (vote_spelling s.known.me v block ∷ []) next =
+        a_vote old next s.known.me v (omega (arith, below, b.wide)) on block fresh (omega arith) in
         if_seals old (is_spent (knowing s next)) _ _ (forget old _ next whole) whole
 
-propose_seals : (fits : Check) (gives : Gives) (s : State) (from : ℕ) (proposed : Proposed) → InBounds s.known → Passes (propose_rows fits s.known from proposed) → Passes (proposed_rows fits s.known proposed.block)
+propose_seals : (fits : Check) (gives : Gives) (s : State) (from : ℕ) (proposed : Proposed) → InBounds s.known
+    → Passes (propose_rows fits s.known from proposed) → Passes (proposed_rows fits s.known proposed.block)
     → SealsIn s.known (propose_done gives s proposed.block)
 unfolding propose_done
 propose_seals fits gives s from proposed b p q =
@@ -210,20 +231,24 @@ propose_seals fits gives s from proposed b p q =
     let earlier : block.cert.view < block.view = is_below fits s.known block.cert block.view p.1.1.1.1.1.0 in
     let fresh : s.known.safety.voted < block.view = leb-false _ _ q.1.1.1.0 in
     let goes : Goes s.known (taken block s.known) = took block earlier fit.1 in
-    voted_seals gives s.known (knowing s (taken block s.known)) block.view (block_digest block) goes.bounds goes refl refl fresh (omega (arith, above, earlier)) fit.1
+    voted_seals gives s.known (knowing s (taken block s.known)) block.view (block_digest block) goes.bounds goes refl refl fresh
+    (omega (arith, above, earlier)) fit.1
   where
     took : (block : Block) → block.cert.view < block.view → block.view ≤ s.known.views → Goes s.known (taken block s.known)
     took block earlier below = view_rises s.known (taken block s.known) b refl refl refl refl refl (omega arith) (omega (arith, b.view, earlier, below))
 
-give_seals : (fits : Check) (gives : Gives) (s : State) (block : Block) → InBounds s.known → Passes (give_rows fits s.known block) → SealsIn s.known (give_done s block)
+give_seals : (fits : Check) (gives : Gives) (s : State) (block : Block) → InBounds s.known → Passes (give_rows fits s.known block)
+    → SealsIn s.known (give_done s block)
 unfolding give_done
 give_seals fits gives s block b p =
     let fit : (0 < block.view) × (block.view ≤ s.known.views) = viewed s.known block.view p.0 in
     let earlier : block.cert.view < block.view = is_below fits s.known block.cert block.view p.1.0 in
-    nothing s.known (taken block s.known) (view_rises s.known (taken block s.known) b refl refl refl refl refl (omega arith) (omega (arith, b.view, fit.1, earlier)))
+    nothing s.known (taken block s.known)
+    (view_rises s.known (taken block s.known) b refl refl refl refl refl (omega arith) (omega (arith, b.view, fit.1, earlier)))
 
 -- a certificate formed, or not
-one_certified_seals : (gives : Gives) (s : State) (f : Formed) → InBounds s.known → f.cert.view ≤ s.known.views → s.known.view ≤ f.cert.view + 1 → s.known.asked < f.cert.view + 1
+one_certified_seals : (gives : Gives) (s : State) (f : Formed) → InBounds s.known → f.cert.view ≤ s.known.views
+    → s.known.view ≤ f.cert.view + 1 → s.known.asked < f.cert.view + 1
     → SealsIn s.known (certified gives s f)
 unfolding certified proposal
 one_certified_seals gives s f b below above asked = by (nat_eq f.cert.view s.known.views) refl
@@ -232,13 +257,22 @@ one_certified_seals gives s f b below above asked = by (nat_eq f.cert.view s.kno
     saw = seen_goes s.known f.cert b below
 
     by : (t : Bool) → nat_eq f.cert.view s.known.views ≡ t
-        → SealsIn s.known (if t then quiet (knowing s (seen f.cert s.known)) Done else proposes gives (knowing (knowing s (seen f.cert s.known)) (proposing_next f.cert (seen f.cert s.known))) (next_block f))
+        → SealsIn s.known (if t then quiet (knowing s (seen f.cert s.known)) Done
+        else proposes gives (knowing (knowing s (seen f.cert s.known)) (proposing_next f.cert (seen f.cert s.known))) (next_block f))
     by true is = nothing s.known (seen f.cert s.known) saw
     by false is =
         let next : Known = proposing_next f.cert (seen f.cert s.known) in
         let lower : f.cert.view < s.known.views = grind (arith, nat_tests, below) in
         let goes : Goes s.known next = record {
-          bounds = record { ordered = omega (arith, b.ordered, above); proposed = omega arith; view = omega (arith, lower); asked = omega (arith, lower); voted = b.voted; wide = b.wide };
+          bounds =
+              record {
+                ordered = omega (arith, b.ordered, above);
+                proposed = omega arith;
+                view = omega (arith, lower);
+                asked = omega (arith, lower);
+                voted = b.voted;
+                wide = b.wide;
+              };
           views = refl;
           view = omega (arith, above);
           asked = omega (arith, asked);
@@ -246,26 +280,32 @@ one_certified_seals gives s f b below above asked = by (nat_eq f.cert.view s.kno
           proposed = omega (arith, b.proposed, asked);
           voted = omega arith;
         } in
-        one_sealed s.known gives (knowing s next) _ _ (a_proposal s.known next s.known.me (f.cert.view + 1) (omega (arith, lower, b.wide)) goes f.cert f.orders (omega (arith, b.proposed, asked)) (omega arith))
+        one_sealed s.known gives (knowing s next) _ _ (a_proposal s.known next s.known.me (f.cert.view + 1)
+        (omega (arith, lower, b.wide)) goes f.cert f.orders (omega (arith, b.proposed, asked)) (omega arith))
 
-certified_seals : (gives : Gives) (s : State) (v : ℕ) (f : Option Formed) → InBounds s.known → ((x : Formed) → f ≡ Some x → x.cert.view ≡ v) → v ≤ s.known.views → s.known.view ≤ v + 1 → s.known.asked < v + 1
+certified_seals : (gives : Gives) (s : State) (v : ℕ) (f : Option Formed) → InBounds s.known → ((x : Formed) → f ≡ Some x → x.cert.view ≡ v)
+    → v ≤ s.known.views → s.known.view ≤ v + 1 → s.known.asked < v + 1
     → SealsIn s.known (certified_if gives s f)
 certified_seals gives s v None b same below above asked = nothing s.known s.known (stays s.known b)
 certified_seals gives s v (Some f) b same below above asked =
     let is_v : f.cert.view ≡ v = same f refl in
     one_certified_seals gives s f b (omega (arith, is_v, below)) (omega (arith, is_v, above)) (omega (arith, is_v, asked))
 
-formed_view : (s : Known) (v : ℕ) (block : Digest) (vote : CertVote) (order : Option SealedOrder) (x : Formed) → formed s v block vote order ≡ Some x → x.cert.view ≡ v
+formed_view : (s : Known) (v : ℕ) (block : Digest) (vote : CertVote) (order : Option SealedOrder) (x : Formed)
+    → formed s v block vote order ≡ Some x → x.cert.view ≡ v
 unfolding formed
 formed_view s v block vote order x is = by (formed_votes (keep_answer (ballot_of s v block).votes vote)) is
   where
-    by : (o : Option (List CertVote)) → option_map (λ votes. record { cert = record { view = v; block = block; votes = votes }; orders = with_carried order (ballot_of s v block).orders }) o ≡ Some x → x.cert.view ≡ v
+    by : (o : Option (List CertVote))
+        → option_map (λ votes. record { cert = record { view = v; block = block; votes = votes }; orders = with_carried order (ballot_of s v block).orders }) o
+        ≡ Some x → x.cert.view ≡ v
     by None none = absurd (cc)
     by (Some votes) some =
         let same : record { cert = record { view = v; block = block; votes = votes }; orders = with_carried order (ballot_of s v block).orders } ≡ x = cc in
         ap (λ (f : Formed). f.cert.view) (sym same)
 
-vote_seals : (fits : Check) (gives : Gives) (s : State) (from : ℕ) (voted : Voted) → InBounds s.known → Passes (vote_rows fits s.known from voted) → SealsIn s.known (vote_done gives s voted.vote voted.order)
+vote_seals : (fits : Check) (gives : Gives) (s : State) (from : ℕ) (voted : Voted) → InBounds s.known
+    → Passes (vote_rows fits s.known from voted) → SealsIn s.known (vote_done gives s voted.vote voted.order)
 unfolding vote_done voting.keeping
 vote_seals fits gives s from voted b p =
     let vote : Vote = voted.vote in
@@ -322,18 +362,21 @@ joined_seals s t u xs ys first next = record {
   votes = rw (flat_map-append (has_kind VOTE) xs ys) (rise_on s.safety.voted t.safety.voted u.safety.voted _ _ first.votes next.votes);
 }
 
-pub run_seals : (fits : Check) (gives : Gives) (s : State) (events : List Event) → InBounds s.known → Seals s.known (sealed_in (journal_of fits gives s events)) (state_after fits gives s events).known
+pub run_seals : (fits : Check) (gives : Gives) (s : State) (events : List Event) → InBounds s.known
+    → Seals s.known (sealed_in (journal_of fits gives s events)) (state_after fits gives s events).known
 run_seals fits gives s [] b = nothing s.known s.known (stays s.known b)
 run_seals fits gives s (e ∷ es) b =
     let o : Outcome = turn_of fits gives s e in
     let now : Seals s.known o.reported.sealed o.state.known = turn_seals fits gives s e b in
-    joined_seals s.known o.state.known (state_after fits gives o.state es).known o.reported.sealed (sealed_in (journal_of fits gives o.state es)) now (run_seals fits gives o.state es now.bounds)
+    joined_seals s.known o.state.known (state_after fits gives o.state es).known o.reported.sealed
+    (sealed_in (journal_of fits gives o.state es)) now (run_seals fits gives o.state es now.bounds)
 
 higher : (low high most : ℕ) (vs : List ℕ) → high ≤ most → Rise low vs high → Rise low vs most
 higher low high most [] below rise = omega (arith, below, rise)
 higher low high most (v ∷ vs) below rise = (rise.0, higher v high most vs below rise.1)
 
-pub once : (s t : Known) (sealed : List (List ℕ)) → Seals s sealed t → s.view ≡ 0 → s.asked ≡ 0 → s.ordered ≡ 0 → s.proposed ≡ 0 → s.safety.voted ≡ 0 → AreSealedOnce s.views sealed
+pub once : (s t : Known) (sealed : List (List ℕ)) → Seals s sealed t → s.view ≡ 0 → s.asked ≡ 0 → s.ordered ≡ 0 → s.proposed ≡ 0
+    → s.safety.voted ≡ 0 → AreSealedOnce s.views sealed
 once s t sealed h view asked ordered proposed voted = record {
   calls = rw (← view) (higher s.view t.view s.views _ (omega (arith, h.bounds.view, h.views)) h.calls);
   asks = rw (← asked) (higher s.asked t.asked s.views _ (omega (arith, h.bounds.asked, h.views)) h.asks);

@@ -48,7 +48,8 @@ pub record IsDrawnBy (known : Known) (statement : List ℕ) : Type 0 where
   pub own : order.replica ≡ known.me
   pub below : order.view ≤ known.views
   pub stored : is_stored known.store order.parent ≡ true
-  pub drawn : order ≡ order_drawn order.replica order.view order.parent known.prefix (chain_state_of (record { setting = known.setting; blocks = known.store }) order.parent)
+  pub drawn : order ≡ order_drawn order.replica order.view order.parent known.prefix
+      (chain_state_of (record { setting = known.setting; blocks = known.store }) order.parent)
 
 abbrev pub DrawnIfOrder : Known → List ℕ → Type 0
 DrawnIfOrder known statement = get_or statement 0 0 ≡ ORDER → IsDrawnBy known statement
@@ -79,7 +80,8 @@ WasDone fits known (Some (messages.NewView call)) = is_good fits known.setting c
 WasDone fits known (Some (messages.Ask call)) = is_good fits known.setting call.cert ≡ true
 WasDone fits known (Some (messages.Order sealed)) = Unit {0}
 WasDone fits known (Some (messages.Propose proposed)) = WasTaken fits known proposed.block
-WasDone fits known (Some (messages.Vote voted)) = fits voted.vote.replica (vote_spelling voted.vote.replica voted.vote.view voted.vote.block) voted.vote.seal ≡ true
+WasDone fits known (Some (messages.Vote voted)) =
+    fits voted.vote.replica (vote_spelling voted.vote.replica voted.vote.view voted.vote.block) voted.vote.seal ≡ true
 WasDone fits known (Some (messages.Fetch block)) = Unit {0}
 WasDone fits known (Some (messages.Give block)) = WasTaken fits known block
 
@@ -91,8 +93,10 @@ abbrev pub stored_of : Reason → Option MessageView → Option Block
 stored_of reason m = if is_done reason then block_of m else None
 
 -- what holds after a turn
-pub record TurnTies (fits : Check) (s : Parameters) (known : Known) (blocks : List Block) (arrived : List Tx) (prior : List Shown) (m : Option MessageView) (more : List Tx) (o : Outcome) : Type 0 where
-  pub tied : TiedTo s o.state.known (with_stored blocks (stored_of o.reported.reason m)) (arrived ++ more) (prior ++ entry_of m o.reported.reason o.reported.sealed ∷ [])
+pub record TurnTies (fits : Check) (s : Parameters) (known : Known) (blocks : List Block) (arrived : List Tx) (prior : List Shown)
+    (m : Option MessageView) (more : List Tx) (o : Outcome) : Type 0 where
+  pub tied : TiedTo s o.state.known (with_stored blocks (stored_of o.reported.reason m)) (arrived ++ more)
+      (prior ++ entry_of m o.reported.reason o.reported.sealed ∷ [])
   pub kept : o.reported.kept ≡ kept_of o.state.known
   pub me : o.state.known.me ≡ known.me
   pub idle : is_done o.reported.reason ≡ false → (more ≡ []) × (o.reported.sealed ≡ [])

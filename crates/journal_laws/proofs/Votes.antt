@@ -51,7 +51,8 @@ votes_at_first s = record {
 }
 
 -- an entry that delivers no vote
-pub no_vote_ties : (s : Parameters) (high higher : ℕ) (boxes : List Ballot) (prior : List Shown) (e : Shown) → high ≤ higher → ((v : ℕ) (d : Digest) → voter_by v d e ≡ None)
+pub no_vote_ties : (s : Parameters) (high higher : ℕ) (boxes : List Ballot) (prior : List Shown) (e : Shown) → high ≤ higher
+    → ((v : ℕ) (d : Digest) → voter_by v d e ≡ None)
     → VotesTied s high boxes prior → VotesTied s higher boxes (prior ++ e ∷ [])
 no_vote_ties s high higher boxes prior e above none tied = record {
   open_boxes = tied.open_boxes;
@@ -62,7 +63,8 @@ no_vote_ties s high higher boxes prior e above none tied = record {
 -- ---- keys
 
 is_for_own : (v : ℕ) (d : Digest) (b : Ballot) → is_for v d b ≡ true → (b.view ≡ v) × (b.block ≡ d)
-is_for_own v d b is = let parts = and_parts (nat_eq b.view v) (digest_eq b.block d) is in ((let same : nat_eq b.view v ≡ true = parts.0 in grind (arith, nat_tests)), same_true b.block d parts.1)
+is_for_own v d b is = let parts = and_parts (nat_eq b.view v) (digest_eq b.block d) is in
+    ((let same : nat_eq b.view v ≡ true = parts.0 in grind (arith, nat_tests)), same_true b.block d parts.1)
 
 for_key : (v : ℕ) (d : Digest) (b : Ballot) → b.view ≡ v → b.block ≡ d → is_for v d b ≡ true
 for_key v d b view block =
@@ -83,7 +85,8 @@ pub box_key : (s : Parameters) (v : ℕ) (d : Digest) (boxes : List Ballot) → 
 box_key s v d [] = for_key v d (empty_ballot s v d) refl refl
 box_key s v d (b ∷ boxes) = by (is_for v d b) refl (box_key s v d boxes)
   where
-    by : (t : Bool) → is_for v d b ≡ t → is_for v d (box_for s v d boxes) ≡ true → is_for v d (unwrap_or (cond t (Some b) (find (is_for v d) boxes)) (empty_ballot s v d)) ≡ true
+    by : (t : Bool) → is_for v d b ≡ t → is_for v d (box_for s v d boxes) ≡ true
+        → is_for v d (unwrap_or (cond t (Some b) (find (is_for v d) boxes)) (empty_ballot s v d)) ≡ true
     by true is later = is
     by false is later = later
 
@@ -95,11 +98,13 @@ box_open s v d (b ∷ boxes) all = by (is_for v d b) (box_open s v d boxes (All-
     by true later = All-head (IsOpen s) b boxes all
     by false later = later
 
-pub box_unvoted : (s : Parameters) (v : ℕ) (d : Digest) (r : ℕ) (boxes : List Ballot) → has_voted boxes v d r ≡ false → has_vote (box_for s v d boxes).votes.votes r ≡ false
+pub box_unvoted : (s : Parameters) (v : ℕ) (d : Digest) (r : ℕ) (boxes : List Ballot) → has_voted boxes v d r ≡ false
+    → has_vote (box_for s v d boxes).votes.votes r ≡ false
 box_unvoted s v d r [] none = refl
 box_unvoted s v d r (b ∷ boxes) none = by (is_for v d b) none (box_unvoted s v d r boxes)
   where
-    by : (t : Bool) → ((t && has_vote b.votes.votes r) || has_voted boxes v d r) ≡ false → (has_voted boxes v d r ≡ false → has_vote (box_for s v d boxes).votes.votes r ≡ false)
+    by : (t : Bool) → ((t && has_vote b.votes.votes r) || has_voted boxes v d r) ≡ false
+        → (has_voted boxes v d r ≡ false → has_vote (box_for s v d boxes).votes.votes r ≡ false)
         → has_vote (unwrap_or (cond t (Some b) (find (is_for v d) boxes)) (empty_ballot s v d)).votes.votes r ≡ false
     by true is later = (or_parts (has_vote b.votes.votes r) (has_voted boxes v d r) is).0
     by false is later = later is
@@ -125,11 +130,13 @@ module _ (v : ℕ) (d : Digest) where
   none_without [] none = refl
   none_without (b ∷ boxes) none = by (p b) none (none_without boxes)
     where
-      by : (t : Bool) → cond t (Some b) (find p boxes) ≡ None → (find p boxes ≡ None → without_first p boxes ≡ boxes) → cond t boxes (b ∷ without_first p boxes) ≡ b ∷ boxes
+      by : (t : Bool) → cond t (Some b) (find p boxes) ≡ None → (find p boxes ≡ None → without_first p boxes ≡ boxes)
+          → cond t boxes (b ∷ without_first p boxes) ≡ b ∷ boxes
       by true is later = absurd (cc)
       by false is later = ap (λ (bs : List Ballot). b ∷ bs) (later is)
 
-  swapped : (q : Ballot → Bool) → ((b : Ballot) → p b ≡ true → q b ≡ false) → (boxes : List Ballot) → without_first q (without_first p boxes) ≡ without_first p (without_first q boxes)
+  swapped : (q : Ballot → Bool) → ((b : Ballot) → p b ≡ true → q b ≡ false) → (boxes : List Ballot)
+      → without_first q (without_first p boxes) ≡ without_first p (without_first q boxes)
   swapped q apart [] = refl
   swapped q apart (b ∷ boxes) = by (p b) (q b) refl refl (swapped q apart boxes)
     where
@@ -144,7 +151,8 @@ module _ (v : ℕ) (d : Digest) where
   last_other q [] b not = rw not refl
   last_other q (x ∷ boxes) b not = by (q x) (last_other q boxes b not)
     where
-      by : (t : Bool) → without_first q (boxes ++ b ∷ []) ≡ without_first q boxes ++ b ∷ [] → cond t (boxes ++ b ∷ []) (x ∷ without_first q (boxes ++ b ∷ [])) ≡ cond t boxes (x ∷ without_first q boxes) ++ b ∷ []
+      by : (t : Bool) → without_first q (boxes ++ b ∷ []) ≡ without_first q boxes ++ b ∷ []
+          → cond t (boxes ++ b ∷ []) (x ∷ without_first q (boxes ++ b ∷ [])) ≡ cond t boxes (x ∷ without_first q boxes) ++ b ∷ []
       by true same = refl
       by false same = ap (λ (bs : List Ballot). x ∷ bs) same
 
@@ -165,7 +173,8 @@ module _ (v : ℕ) (d : Digest) where
   find_own [] b none is = rw is refl
   find_own (x ∷ boxes) b none is = by (p x) none (find_own boxes b)
     where
-      by : (t : Bool) → cond t (Some x) (find p boxes) ≡ None → (find p boxes ≡ None → p b ≡ true → find p (boxes ++ b ∷ []) ≡ Some b) → cond t (Some x) (find p (boxes ++ b ∷ [])) ≡ Some b
+      by : (t : Bool) → cond t (Some x) (find p boxes) ≡ None → (find p boxes ≡ None → p b ≡ true → find p (boxes ++ b ∷ []) ≡ Some b)
+          → cond t (Some x) (find p (boxes ++ b ∷ [])) ≡ Some b
       by true none later = absurd (cc)
       by false none later = later none is
 

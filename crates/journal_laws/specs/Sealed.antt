@@ -54,4 +54,5 @@ CapacitiesAgree fits gives s views me capacity other events =
 abbrev pub RestsOnItsSeals : Check → Gives → Parameters → ℕ → ℕ → ℕ → List Event → Type 0
 RestsOnItsSeals fits gives s views me capacity events =
     let opening = opening_state s views me capacity in
-    (other : Gives) → SealAlike gives other 0 (sealed_in (journal_of fits gives opening events)) → journal_of fits gives opening events ≡ journal_of fits other opening events
+    (other : Gives) → SealAlike gives other 0 (sealed_in (journal_of fits gives opening events))
+    → journal_of fits gives opening events ≡ journal_of fits other opening events

@@ -19,7 +19,8 @@ last_of_some {X} x (y ∷ ys) = let rest = last_of_some y ys in (x ∷ rest.0, r
 
 -- an entry that keeps rules 2, 4 and 5
 module _ (by : Scale) (before : List Entry) (e : Entry) (takes : Takes by before e) where
-  is_lawful_vote : is_done e.turned.reason ≡ true → (v : Ballot) → IsVoteFor by before e v → (lock_in by.setting before).view < v.view → IsLawfulVote by.setting (map shown before) (shown e) v
+  is_lawful_vote : is_done e.turned.reason ≡ true → (v : Ballot) → IsVoteFor by before e v → (lock_in by.setting before).view < v.view
+      → IsLawfulVote by.setting (map shown before) (shown e) v
   is_lawful_vote done v for above = record {
     done = done;
     block = for.block;
@@ -31,7 +32,8 @@ module _ (by : Scale) (before : List Entry) (e : Entry) (takes : Takes by before
     rule = for.rule;
   }
 
-  pub lawful_votes : All (IsVoteFor by before e) (ballots_by e) → All (λ v. (lock_in by.setting before).view < v.view) (ballots_by e) → All (IsLawfulVote by.setting (map shown before) (shown e)) (shown e).sealed
+  pub lawful_votes : All (IsVoteFor by before e) (ballots_by e) → All (λ v. (lock_in by.setting before).view < v.view) (ballots_by e)
+      → All (IsLawfulVote by.setting (map shown before) (shown e)) (shown e).sealed
   lawful_votes votes above = elim (cases_Bool (is_done e.turned.reason)) [
     | inl done ↦ (λ k d inside. is_lawful_vote done (get_or (ballots_by e) k d) (votes k d inside) (above k d inside))
     | inr idle ↦
@@ -46,7 +48,8 @@ agrees_of by journal lawful = record {
       let r = split_of_map shown journal firsts e others is in
       subst (λ (z : Plain). All (IsLawfulVote by.setting firsts z) z.sealed) r.same
       (subst (λ (fs : List Plain). All (IsLawfulVote by.setting fs (shown r.item)) (shown r.item).sealed) r.first
-      (lawful_votes by r.before r.item (lawful r.before r.item r.after r.is 2) (lawful r.before r.item r.after r.is 5) (lawful r.before r.item r.after r.is 4).above_lock));
+      (lawful_votes by r.before r.item (lawful r.before r.item r.after r.is 2) (lawful r.before r.item r.after r.is 5)
+      (lawful r.before r.item r.after r.is 4).above_lock));
   ascending = rise journal lawful;
 }
   where

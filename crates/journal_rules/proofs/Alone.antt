@@ -24,7 +24,8 @@ use Rattle.journal_rules.proofs.Stores.{at_cases, at_other}
 module _ (store : List Block) (before : List Entry) (tied : IsTied store (stored_in before)) where
   found_one : (b : Block) → StandsAlone before (named b) → (x : Block) → block_at store (block_digest b) ≡ Some x → x ≡ b
   found_one b alone x found =
-      let p = found_at (stored_in before) (block_digest b) (named x) (tied.same (block_digest b) ∙ at_other store (block_digest b) alone.other ∙ ap (option_map named) found) in
+      let p = found_at (stored_in before) (block_digest b) (named x)
+      (tied.same (block_digest b) ∙ at_other store (block_digest b) alone.other ∙ ap (option_map named) found) in
       let same : named x ≡ named b = All-contains (λ (c : Named). c.digest ≡ block_digest b → c ≡ named b) (stored_in before) (named x) alone.one p.0 p.1 in
       ap block_named same
 
@@ -46,7 +47,9 @@ module _ (store : List Block) (before : List Entry) (tied : IsTied store (stored
     where
       one : (x : Block) → block_at store (block_digest b) ≡ Some x → x ≡ b
       one x at_x =
-          let none : is_other (Some x) b ≡ false = subst (λ (o : Option Block). is_other o b ≡ false) at_x (clashes_parts (digest_eq (block_digest b) first_digest) (is_other (block_at store (block_digest b)) b) alone).1 in
+          let none : is_other (Some x) b ≡ false =
+          subst (λ (o : Option Block). is_other o b ≡ false) at_x
+          (clashes_parts (digest_eq (block_digest b) first_digest) (is_other (block_at store (block_digest b)) b) alone).1 in
           (block_eq_decides x b).0 (turned (block_eq x b) none)
         where
           turned : (t : Bool) → not t ≡ false → t ≡ true

@@ -22,12 +22,15 @@ use Rattle.agreement_laws.proofs.Digests.{same_true}
 -- what can be written is within its limits
 each_short : (orders : List SealedOrder) → AllByRecursion IsWritableOrder orders → All (λ sealed. IsShort sealed.order) orders
 each_short [] all = All-nil (λ sealed. IsShort sealed.order)
-each_short (o ∷ orders) all = All-cons (λ sealed. IsShort sealed.order) o orders (record { fresh = all.0.fresh.few; late = all.0.late.few }) (each_short orders all.1)
+each_short (o ∷ orders) all =
+    All-cons (λ sealed. IsShort sealed.order) o orders (record { fresh = all.0.fresh.few; late = all.0.late.few }) (each_short orders all.1)
 
 abbrev pub FreshWithin : Type 0
 FreshWithin = (block : Block) → IsWithin block → AreFresh (fresh_of block)
 
-pub store_more : (short : FreshWithin) (store : List Block) (b : Block) → ((d : Digest) (x : Block) → block_at store d ≡ Some x → block_at (with_block b store) d ≡ Some x) → block_at (with_block b store) (block_digest b) ≡ Some b
+pub store_more : (short : FreshWithin) (store : List Block) (b : Block)
+    → ((d : Digest) (x : Block) → block_at store d ≡ Some x → block_at (with_block b store) d ≡ Some x)
+    → block_at (with_block b store) (block_digest b) ≡ Some b
     → IsWritableBlock b → is_stored store b.cert.block ≡ true → clashes store (block_digest b) b ≡ false → StoreKept store → StoreKept (with_block b store)
 store_more short store b stays found shape parent alone kept = record {
   led = led_with store b kept.led alone parent;

@@ -23,11 +23,14 @@ use Rattle.journal_rules.specs.Rules.{IsValidIn}
 use Rattle.journal_rules.specs.Shown.{shown}
 use Rattle.journal_rules.proofs.Stores.{block_long}
 
-pub one_order : (P : SealedOrder → Type 0) (c : Cert) (v : ℕ) → P (record { order = record { replica = 0; view = v; parent = c.block; fresh = []; late = [] }; seal = [] }) → All P (block_over c v).orders
+pub one_order : (P : SealedOrder → Type 0) (c : Cert) (v : ℕ)
+    → P (record { order = record { replica = 0; view = v; parent = c.block; fresh = []; late = [] }; seal = [] })
+    → All P (block_over c v).orders
 one_order P c v holds = All-cons P _ [] holds (All-nil P)
 
 -- a block over a stored one is valid
-pub valid_over : (before : List Entry) (c : Cert) (v : ℕ) → IsGood all_fit of_one.setting c → IsStored (map shown before) c.block c.view → c.view < v → IsValidIn of_one before (block_over c v)
+pub valid_over : (before : List Entry) (c : Cert) (v : ℕ) → IsGood all_fit of_one.setting c → IsStored (map shown before) c.block c.view
+    → c.view < v → IsValidIn of_one before (block_over c v)
 valid_over before c v good parent below = record {
   good = good;
   parent = parent;
@@ -78,6 +81,7 @@ cert_good b above = inr (record {
   count = refl;
   rise = λ i j d less inside. absurd (omega (arith, less, inside));
   below = All-cons (λ (v : CertVote). v.replica < 1) (record { replica = 0; seal = [] }) [] (omega arith) (All-nil (λ (v : CertVote). v.replica < 1));
-  fit = All-cons (λ (v : CertVote). all_fit v.replica (vote_spelling v.replica b.view (block_digest b)) v.seal ≡ true) (record { replica = 0; seal = [] }) [] refl
+  fit = All-cons (λ (v : CertVote). all_fit v.replica (vote_spelling v.replica b.view (block_digest b)) v.seal ≡ true)
+      (record { replica = 0; seal = [] }) [] refl
       (All-nil (λ (v : CertVote). all_fit v.replica (vote_spelling v.replica b.view (block_digest b)) v.seal ≡ true));
 })

@@ -45,9 +45,11 @@ module _ {X : Type 0} where
   pub pairs_more : (R : X → X → Type 0) (xs : List X) (last : X) → AllPairs R xs → All (λ x. R x last) xs → AllPairs R (xs ++ last ∷ [])
   pairs_more R [] last pairs all = AllPairs-cons R last [] (All-nil (R last)) pairs
   pairs_more R (x ∷ xs) last pairs all =
-      AllPairs-cons R x (xs ++ last ∷ []) (All-append (R x) xs (last ∷ []) (first_pairs R x xs pairs) (All-cons (R x) last [] (All-head (λ y. R y last) x xs all) (All-nil (R x))))
+      AllPairs-cons R x (xs ++ last ∷ [])
+      (All-append (R x) xs (last ∷ []) (first_pairs R x xs pairs) (All-cons (R x) last [] (All-head (λ y. R y last) x xs all) (All-nil (R x))))
       (pairs_more R xs last (rest_pairs R x xs pairs) (All-tail (λ y. R y last) x xs all))
 
   pub pairs_prefix : (R : X → X → Type 0) (xs ys : List X) → AllPairs R (xs ++ ys) → AllPairs R xs
   pairs_prefix R xs ys pairs i j d less inside =
-      rw (← get_or_append_left xs ys d i (omega (arith, less, inside)), ← get_or_append_left xs ys d j inside) (pairs i j d less (omega (arith, inside, length-append xs ys)))
+      rw (← get_or_append_left xs ys d i (omega (arith, less, inside)), ← get_or_append_left xs ys d j inside)
+      (pairs i j d less (omega (arith, inside, length-append xs ys)))

@@ -34,7 +34,8 @@ use Rattle.journal_rules.proofs.OneEntry.{NamesReplica0, ReadsSpellings, few_mar
 
 -- ---- what is known of stored blocks
 
-two_stored : (a b : Block) (prefix : List Entry) → stored_in prefix ≡ first_block ∷ named a ∷ [] → block_digest b ≢ first_digest → (block_digest a ≡ block_digest b → named a ≡ named b) → StandsAlone prefix (named b)
+two_stored : (a b : Block) (prefix : List Entry) → stored_in prefix ≡ first_block ∷ named a ∷ [] → block_digest b ≢ first_digest
+    → (block_digest a ≡ block_digest b → named a ≡ named b) → StandsAlone prefix (named b)
 two_stored a b prefix is other one = record {
   one = subst (All (λ c. c.digest ≡ block_digest b → c ≡ named b)) (sym is)
       (All-cons (λ (c : Named). c.digest ≡ block_digest b → c ≡ named b) first_block (named a ∷ []) (λ same. absurd (other (sym same)))
@@ -44,7 +45,8 @@ two_stored a b prefix is other one = record {
 
 first_alone : (b : Block) → block_digest b ≢ first_digest → StandsAlone [] (named b)
 first_alone b other = record {
-  one = All-cons (λ (c : Named). c.digest ≡ block_digest b → c ≡ named b) first_block [] (λ same. absurd (other (sym same))) (All-nil (λ (c : Named). c.digest ≡ block_digest b → c ≡ named b));
+  one = All-cons (λ (c : Named). c.digest ≡ block_digest b → c ≡ named b) first_block [] (λ same. absurd (other (sym same)))
+      (All-nil (λ (c : Named). c.digest ≡ block_digest b → c ≡ named b));
   other = other;
 }
 
@@ -77,7 +79,8 @@ no_votes : (before : List Entry) (e : Entry) → ballots_in (map shown (up_to be
 no_votes before e none mine = (
   record {
     rise = subst (AllPairs (λ x y. x.view < y.view)) (sym none) (few_votes [] (omega arith));
-    above_lock = subst (All (λ v. (lock_in of_one.setting before).view < v.view)) (sym mine) (All-nil (λ (v : Ballot). (lock_in of_one.setting before).view < v.view));
+    above_lock = subst (All (λ v. (lock_in of_one.setting before).view < v.view)) (sym mine)
+        (All-nil (λ (v : Ballot). (lock_in of_one.setting before).view < v.view));
   },
   subst (All (IsVoteFor of_one before e)) (sym mine) (All-nil (IsVoteFor of_one before e)),
 )
@@ -86,12 +89,14 @@ module _ (reads : ReadsSpellings) where
   delivered : (b : Block) → IsWritableBlock b → message_in (Deliver 0 (message_spelling (messages.Propose 0 b []))) ≡ Some (view_of (messages.Propose 0 b []))
   delivered b writable = ap result_ok (reads (messages.Propose 0 b []) (record { named = omega arith; sealed = omega arith }, writable))
 
-  shown_as : (b : Block) → IsWritableBlock b → (sealed : List (List ℕ)) → shown (done (messages.Propose 0 b []) sealed) ≡ record { message = Plain.Propose (named b); is_done = true; sealed = filter_map ballot_in sealed }
+  shown_as : (b : Block) → IsWritableBlock b → (sealed : List (List ℕ)) → shown (done (messages.Propose 0 b []) sealed)
+      ≡ record { message = Plain.Propose (named b); is_done = true; sealed = filter_map ballot_in sealed }
   shown_as b writable sealed = ap (λ m. record { message = shown_message m; is_done = true; sealed = filter_map ballot_in sealed }) (delivered b writable)
 
   -- a valid block is accepted
   takes_block : (before : List Entry) (b : Block) (sealed : List (List ℕ)) → IsWritableBlock b → IsValidIn of_one before b → StandsAlone before (named b)
-      → All NamesReplica0 sealed → once_in (sealed_in (up_to before (done (messages.Propose 0 b []) sealed))) → Takes of_one before (done (messages.Propose 0 b []) sealed)
+      → All NamesReplica0 sealed → once_in (sealed_in (up_to before (done (messages.Propose 0 b []) sealed)))
+      → Takes of_one before (done (messages.Propose 0 b []) sealed)
   takes_block before b sealed writable valid alone own once = record {
     idle = λ not. absurd (cc);
     own = own;
@@ -131,7 +136,8 @@ module _ (reads : ReadsSpellings) where
     differ : block_digest (child 2) ≢ block_digest (child 1)
     differ = own.differ 0 1 (child 1) (omega arith) (omega arith)
 
-    shown_is : map shown (voted_for (child 2) ∷ []) ≡ record { message = Plain.Propose (named (child 2)); is_done = true; sealed = ballot 2 (block_digest (child 2)) ∷ [] } ∷ []
+    shown_is : map shown (voted_for (child 2) ∷ [])
+        ≡ record { message = Plain.Propose (named (child 2)); is_done = true; sealed = ballot 2 (block_digest (child 2)) ∷ [] } ∷ []
     shown_is = ap (λ (x : Shown). x ∷ []) (shown_as (child 2) (writable_child 2 (omega arith)) (vote_of (child 2) ∷ []))
 
     lock_is : lock_in of_one.setting (voted_for (child 2) ∷ []) ≡ first_block
@@ -146,7 +152,8 @@ module _ (reads : ReadsSpellings) where
     voted_lawful : IsLawful of_one (voted_for (child 2) ∷ [])
     voted_lawful = each_more (KeepsAll of_one) [] (voted_for (child 2)) (each_none (KeepsAll of_one))
         (keep_all of_one [] (voted_for (child 2)) (record { first = refl; all = refl })
-        (takes_block [] (child 2) (vote_of (child 2) ∷ []) (writable_child 2 (omega arith)) (valid_child [] 2 (omega arith)) (first_alone (child 2) later) (own_vote (child 2))
+        (takes_block [] (child 2) (vote_of (child 2) ∷ []) (writable_child 2 (omega arith)) (valid_child [] 2 (omega arith))
+        (first_alone (child 2) later) (own_vote (child 2))
         (few_marks (record { kind = VOTE; view = 2 } ∷ []) (omega arith)))
         (no_orders [] (voted_for (child 2)) (child 2)) voted_is
         (votes_for [] (child 2) (writable_child 2 (omega arith)) 2 refl refl (leads_to_first [] 2 later)))
@@ -156,10 +163,13 @@ module _ (reads : ReadsSpellings) where
       voted_lawful,
       λ rises. (let less : 2 < 1 = rises.rise 0 1 (ballot 0 first_digest) (omega arith) (omega arith) in absurd (omega (arith, less))),
       others of_one (voted_for (child 2) ∷ []) (voted_for (child 1)) 4 (λ o. record { first = refl; all = refl })
-          (λ o. takes_block (voted_for (child 2) ∷ []) (child 1) (vote_of (child 1) ∷ []) (writable_child 1 (omega arith)) (valid_child (voted_for (child 2) ∷ []) 1 (omega arith))
+          (λ o. takes_block (voted_for (child 2) ∷ []) (child 1) (vote_of (child 1) ∷ []) (writable_child 1 (omega arith))
+          (valid_child (voted_for (child 2) ∷ []) 1 (omega arith))
           (two_stored (child 2) (child 1) (voted_for (child 2) ∷ []) (ap stored shown_is) earlier (λ same. absurd (differ same))) (own_vote (child 1))
           (AllPairs-cons (λ a b. a ≢ b) (record { kind = VOTE; view = 2 }) (record { kind = VOTE; view = 1 } ∷ [])
-          (All-cons (λ m. record { kind = VOTE; view = 2 } ≢ m) (record { kind = VOTE; view = 1 }) [] (λ same. (let two : 2 ≡ 1 = ap (λ (m : Mark). m.view) same in absurd (omega (arith, two)))) (All-nil (λ m. record { kind = VOTE; view = 2 } ≢ m)))
+          (All-cons (λ m. record { kind = VOTE; view = 2 } ≢ m) (record { kind = VOTE; view = 1 }) []
+          (λ same. (let two : 2 ≡ 1 = ap (λ (m : Mark). m.view) same in absurd (omega (arith, two))))
+          (All-nil (λ m. record { kind = VOTE; view = 2 } ≢ m)))
           (few_marks (record { kind = VOTE; view = 1 } ∷ []) (omega arith))))
           (λ o. no_orders (voted_for (child 2) ∷ []) (voted_for (child 1)) (child 1)) (itself 4)
           (λ o. votes_for (voted_for (child 2) ∷ []) (child 1) (writable_child 1 (omega arith)) 1 refl refl
@@ -176,10 +186,12 @@ module _ (reads : ReadsSpellings) where
     breaks_alone = (
       proposed_lawful a c.one.0 c.one.1 c.not_first,
       λ takes. (let alone : StandsAlone (proposed a ∷ []) (named b) = takes.alone (named b) (ap stored_by (shown_as b c.other.0 [])) in
-          let one : All (λ n. n.digest ≡ block_digest b → n ≡ named b) (first_block ∷ named a ∷ []) = subst (All (λ n. n.digest ≡ block_digest b → n ≡ named b)) (ap stored a_shown) alone.one in
+          let one : All (λ n. n.digest ≡ block_digest b → n ≡ named b) (first_block ∷ named a ∷ []) =
+          subst (All (λ n. n.digest ≡ block_digest b → n ≡ named b)) (ap stored a_shown) alone.one in
           let equal : named a ≡ named b = one 1 first_block (omega arith) c.same in
           absurd (c.differ (ap (λ (n : Named). record { view = n.view; cert = n.cert; orders = n.orders }) equal))),
-      others of_one (proposed a ∷ []) (proposed b) 2 (λ o. record { first = refl; all = refl }) (itself 2) (λ o. All-nil (drawn_if (proposed a ∷ []) (proposed b)))
+      others of_one (proposed a ∷ []) (proposed b) 2 (λ o. record { first = refl; all = refl }) (itself 2)
+          (λ o. All-nil (drawn_if (proposed a ∷ []) (proposed b)))
           (λ o. (no_votes (proposed a ∷ []) (proposed b) refl refl).0) (λ o. (no_votes (proposed a ∷ []) (proposed b) refl refl).1),
     )
 
@@ -229,7 +241,8 @@ module _ (reads : ReadsSpellings) where
     c_writable = writable_child 3 (omega arith)
 
     called : message_in (called_with b).event ≡ Some (view_of (messages.NewView 0 3 (cert_of b) []))
-    called = ap result_ok (reads (messages.NewView 0 3 (cert_of b) []) (record { named = omega arith; sealed = omega arith }, omega arith, cert_writable b (omega arith)))
+    called = ap result_ok
+        (reads (messages.NewView 0 3 (cert_of b) []) (record { named = omega arith; sealed = omega arith }, omega arith, cert_writable b (omega arith)))
 
     called_as : shown (called_with b) ≡ calling
     called_as = ap (λ m. record { message = shown_message m; is_done = true; sealed = [] }) called
@@ -249,7 +262,12 @@ module _ (reads : ReadsSpellings) where
     blocks = first_block ∷ named a ∷ named b ∷ []
 
     a_parent : parent_of blocks (block_digest a) ≡ Some first_block
-    a_parent = rw (false_other first_digest (block_digest a) (λ is. a_other (sym is)), true_same (block_digest a) (block_digest a) refl, false_other (block_digest a) first_digest a_other) refl
+    a_parent = rw (
+      false_other first_digest (block_digest a) (λ is. a_other (sym is)),
+      true_same (block_digest a) (block_digest a) refl,
+      false_other (block_digest a) first_digest a_other,
+    )
+        refl
 
     b_parent : parent_of blocks (block_digest b) ≡ Some (named a)
     b_parent = rw (
@@ -267,12 +285,15 @@ module _ (reads : ReadsSpellings) where
     -- ---- it is lawful
 
     b_valid : IsValidIn of_one (proposed a ∷ []) b
-    b_valid = valid_over (proposed a ∷ []) (cert_of a) 2 (cert_good a (omega arith)) (subst (λ (prefix : List Shown). IsStored prefix (block_digest a) 1) (sym one) (1, named a, omega arith, refl, (refl, refl))) (omega arith)
+    b_valid = valid_over (proposed a ∷ []) (cert_of a) 2 (cert_good a (omega arith))
+        (subst (λ (prefix : List Shown). IsStored prefix (block_digest a) 1) (sym one) (1, named a, omega arith, refl, (refl, refl))) (omega arith)
 
     b_keeps : KeepsAll of_one (proposed a ∷ []) (proposed b)
     b_keeps = keep_all of_one (proposed a ∷ []) (proposed b) (record { first = refl; all = refl })
-        (takes_block (proposed a ∷ []) b [] b_writable b_valid (two_stored a b (proposed a ∷ []) (ap stored one) b_other (λ same. absurd (a_is_not_b same))) (All-nil NamesReplica0) (few_marks [] (omega arith)))
-        (All-nil (drawn_if (proposed a ∷ []) (proposed b))) (no_votes (proposed a ∷ []) (proposed b) refl refl).0 (no_votes (proposed a ∷ []) (proposed b) refl refl).1
+        (takes_block (proposed a ∷ []) b [] b_writable b_valid (two_stored a b (proposed a ∷ []) (ap stored one) b_other (λ same. absurd (a_is_not_b same)))
+        (All-nil NamesReplica0) (few_marks [] (omega arith)))
+        (All-nil (drawn_if (proposed a ∷ []) (proposed b))) (no_votes (proposed a ∷ []) (proposed b) refl refl).0
+        (no_votes (proposed a ∷ []) (proposed b) refl refl).1
 
     abbrev before_call : List Entry
     before_call = proposed a ∷ proposed b ∷ []
@@ -282,8 +303,10 @@ module _ (reads : ReadsSpellings) where
       idle = λ not. absurd (cc);
       own = All-nil NamesReplica0;
       once = few_marks [] (omega arith);
-      done = λ is. subst (MayBeDone of_one before_call) (sym called)
-          (cert_good b (omega arith), subst (λ (prefix : List Shown). IsStored prefix (block_digest b) 2) (sym two) (2, named b, omega arith, refl, (refl, refl)));
+      done = λ is. subst (MayBeDone of_one before_call) (sym called) (
+        cert_good b (omega arith),
+        subst (λ (prefix : List Shown). IsStored prefix (block_digest b) 2) (sym two) (2, named b, omega arith, refl, (refl, refl)),
+      );
       alone = λ n is. absurd (none-some n (sym (ap stored_by called_as) ∙ is));
     }
 
@@ -300,7 +323,8 @@ module _ (reads : ReadsSpellings) where
       one = subst (All (λ n. n.digest ≡ block_digest c → n ≡ named c)) (sym (ap stored three))
           (All-cons (λ (n : Named). n.digest ≡ block_digest c → n ≡ named c) first_block (named a ∷ named b ∷ []) (λ same. absurd (c_other (sym same)))
           (All-cons (λ (n : Named). n.digest ≡ block_digest c → n ≡ named c) (named a) (named b ∷ []) (λ same. absurd (a_is_not_c same))
-          (All-cons (λ (n : Named). n.digest ≡ block_digest c → n ≡ named c) (named b) [] (λ same. absurd (b_is_not_c same)) (All-nil (λ (n : Named). n.digest ≡ block_digest c → n ≡ named c)))));
+          (All-cons (λ (n : Named). n.digest ≡ block_digest c → n ≡ named c) (named b) [] (λ same. absurd (b_is_not_c same))
+          (All-nil (λ (n : Named). n.digest ≡ block_digest c → n ≡ named c)))));
       other = c_other;
     }
 
@@ -323,13 +347,15 @@ module _ (reads : ReadsSpellings) where
 
     breaks_rule : Votes of_one locked_on_child (voted_for c) → ⊥
     breaks_rule votes =
-        let v : IsVoteFor of_one locked_on_child (voted_for c) (ballot 3 (block_digest c)) = All-head (IsVoteFor of_one locked_on_child (voted_for c)) (ballot 3 (block_digest c)) [] votes in
+        let v : IsVoteFor of_one locked_on_child (voted_for c) (ballot 3 (block_digest c)) =
+        All-head (IsVoteFor of_one locked_on_child (voted_for c)) (ballot 3 (block_digest c)) [] votes in
         let is : Plain.Propose v.block ≡ Plain.Propose (named c) = sym v.delivered ∙ ap (λ (s : Shown). s.message) (shown_as c c_writable (vote_of c ∷ [])) in
         let same : v.block ≡ named c = cc in
         elim v.rule [
           | inl leads ↦
               let led : LeadsTo (stored_in locked_on_child) (named c) (named a) =
-              subst (LeadsTo (stored_in locked_on_child) (named c)) locked_is (subst (λ (n : Named). LeadsTo (stored_in locked_on_child) n (lock_in of_one.setting locked_on_child)) same leads) in
+              subst (LeadsTo (stored_in locked_on_child) (named c)) locked_is
+              (subst (λ (n : Named). LeadsTo (stored_in locked_on_child) n (lock_in of_one.setting locked_on_child)) same leads) in
               not_led _ led.0 led.1
           | inr above ↦
               let cert_view : v.block.cert.view ≡ 0 = ap (λ (n : Named). n.cert.view) same in
@@ -342,6 +368,7 @@ module _ (reads : ReadsSpellings) where
       locked_lawful,
       breaks_rule,
       others of_one locked_on_child (voted_for c) 5 (λ o. record { first = refl; all = refl })
-          (λ o. takes_block locked_on_child c (vote_of c ∷ []) c_writable (valid_child locked_on_child 3 (omega arith)) c_alone (own_vote c) (few_marks (record { kind = VOTE; view = 3 } ∷ []) (omega arith)))
+          (λ o. takes_block locked_on_child c (vote_of c ∷ []) c_writable (valid_child locked_on_child 3 (omega arith)) c_alone (own_vote c)
+          (few_marks (record { kind = VOTE; view = 3 } ∷ []) (omega arith)))
           (λ o. no_orders locked_on_child (voted_for c) c) (λ o. c_rises) (itself 5),
     )

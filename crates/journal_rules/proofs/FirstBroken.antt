@@ -17,7 +17,8 @@ pub record Shows (by : Scale) (before : List Entry) (e : Entry) : Type 0 where
   pub four : Decides (rises by before e) (Rises by before e)
   pub five : Takes by before e → Decides (votes by before e) (Votes by before e)
 
-pub keep_all : (by : Scale) (before : List Entry) (e : Entry) → Knows by before e → Takes by before e → Draws by before e → Rises by before e → Votes by before e → KeepsAll by before e
+pub keep_all : (by : Scale) (before : List Entry) (e : Entry) → Knows by before e → Takes by before e → Draws by before e
+    → Rises by before e → Votes by before e → KeepsAll by before e
 keep_all by before e a b c d f zero = tt
 keep_all by before e a b c d f (suc zero) = a
 keep_all by before e a b c d f (suc (suc zero)) = b
@@ -56,7 +57,8 @@ below_4 by before e a b c (suc (suc zero)) less = b
 below_4 by before e a b c (suc (suc (suc zero))) less = c
 below_4 by before e a b c (suc (suc (suc (suc k)))) less = absurd (omega (arith, less))
 
-below_5 : (by : Scale) (before : List Entry) (e : Entry) → Knows by before e → Takes by before e → Draws by before e → Rises by before e → (k : ℕ) → k < 5 → Keeps by before e k
+below_5 : (by : Scale) (before : List Entry) (e : Entry) → Knows by before e → Takes by before e → Draws by before e → Rises by before e
+    → (k : ℕ) → k < 5 → Keeps by before e k
 below_5 by before e a b c d zero less = tt
 below_5 by before e a b c d (suc zero) less = a
 below_5 by before e a b c d (suc (suc zero)) less = b
@@ -68,23 +70,28 @@ pub says : (by : Scale) (before : List Entry) (e : Entry) → Shows by before e 
 unfolding broken_by
 says by before e t = first (knows by before e) refl
   where
-    fifth : (x : Bool) → votes by before e ≡ x → Knows by before e → Takes by before e → Draws by before e → Rises by before e → Says by before e (first_false 5 (x ∷ []))
+    fifth : (x : Bool) → votes by before e ≡ x → Knows by before e → Takes by before e → Draws by before e → Rises by before e
+        → Says by before e (first_false 5 (x ∷ []))
     fifth true is a b c d = keep_all by before e a b c d ((t.five b).0 is)
     fifth false is a b c d = (below_5 by before e a b c d, fails (votes by before e) (Votes by before e) (t.five b) is)
 
-    fourth : (x : Bool) → rises by before e ≡ x → Knows by before e → Takes by before e → Draws by before e → Says by before e (first_false 4 (x ∷ votes by before e ∷ []))
+    fourth : (x : Bool) → rises by before e ≡ x → Knows by before e → Takes by before e → Draws by before e
+        → Says by before e (first_false 4 (x ∷ votes by before e ∷ []))
     fourth true is a b c = fifth (votes by before e) refl a b c (t.four.0 is)
     fourth false is a b c = (below_4 by before e a b c, fails (rises by before e) (Rises by before e) t.four is)
 
-    third : (x : Bool) → draws by before e ≡ x → Knows by before e → Takes by before e → Says by before e (first_false 3 (x ∷ rises by before e ∷ votes by before e ∷ []))
+    third : (x : Bool) → draws by before e ≡ x → Knows by before e → Takes by before e
+        → Says by before e (first_false 3 (x ∷ rises by before e ∷ votes by before e ∷ []))
     third true is a b = fourth (rises by before e) refl a b (t.three.0 is)
     third false is a b = (below_3 by before e a b, fails (draws by before e) (Draws by before e) t.three is)
 
-    second : (x : Bool) → takes by before e ≡ x → Knows by before e → Says by before e (first_false 2 (x ∷ draws by before e ∷ rises by before e ∷ votes by before e ∷ []))
+    second : (x : Bool) → takes by before e ≡ x → Knows by before e
+        → Says by before e (first_false 2 (x ∷ draws by before e ∷ rises by before e ∷ votes by before e ∷ []))
     second true is a = third (draws by before e) refl a (t.two.0 is)
     second false is a = (below_2 by before e a, fails (takes by before e) (Takes by before e) t.two is)
 
-    first : (x : Bool) → knows by before e ≡ x → Says by before e (first_false 1 (x ∷ takes by before e ∷ draws by before e ∷ rises by before e ∷ votes by before e ∷ []))
+    first : (x : Bool) → knows by before e ≡ x
+        → Says by before e (first_false 1 (x ∷ takes by before e ∷ draws by before e ∷ rises by before e ∷ votes by before e ∷ []))
     first true is = second (takes by before e) refl (t.one.0 is)
     first false is = (below_1 by before e, fails (knows by before e) (Knows by before e) t.one is)
 
@@ -98,7 +105,8 @@ module _ (by : Scale) (shows : (before : List Entry) (e : Entry) → IsLawful by
   unfolding broken_from
   found_from before [] lawful = subst (IsLawful by) (sym (append-nil before)) lawful
   found_from before (e ∷ rest) lawful =
-      audited (broken_by by before e) (says by before e (shows before e lawful)) (λ all. found_from (before ++ e ∷ []) rest (each_more (KeepsAll by) before e lawful all))
+      audited (broken_by by before e) (says by before e (shows before e lawful))
+      (λ all. found_from (before ++ e ∷ []) rest (each_more (KeepsAll by) before e lawful all))
     where
       audited : (o : Option ℕ) → Says by before e o → (KeepsAll by before e → Found by ((before ++ e ∷ []) ++ rest) (broken_from by (before ++ e ∷ []) rest))
           → Found by (before ++ e ∷ rest) (option_or (option_map (place (length before)) o) (broken_from by (before ++ e ∷ []) rest))

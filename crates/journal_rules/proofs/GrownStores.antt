@@ -18,7 +18,8 @@ use Rattle.journal_rules.specs.Stores.{at, HasParent, IsTied}
 use Rattle.journal_rules.proofs.Stores.{eq_false, eq_sym, at_first, at_other, at_cases}
 
 -- in a list with one more block
-pub last_shown : (blocks : List Named) (b : Named) (d : Digest) → shown_at (blocks ++ b ∷ []) d ≡ option_or (shown_at blocks d) (cond (digest_eq b.digest d) (Some b) None)
+pub last_shown : (blocks : List Named) (b : Named) (d : Digest)
+    → shown_at (blocks ++ b ∷ []) d ≡ option_or (shown_at blocks d) (cond (digest_eq b.digest d) (Some b) None)
 last_shown [] b d = refl
 last_shown (c ∷ blocks) b d = by (digest_eq c.digest d) (last_shown blocks b d)
   where
@@ -35,7 +36,8 @@ last_of X (z ∷ xs) x y inside = elim (here_or_there z (xs ++ y ∷ []) x insid
 ]
 
 pub not_clashing : (store : List Block) (b : Block) → clashes store (block_digest b) b ≡ false → block_digest b ≡ first_digest → ⊥
-not_clashing store b alone = eq_false (block_digest b) first_digest (by (digest_eq (block_digest b) first_digest) (is_other (block_at store (block_digest b)) b) alone)
+not_clashing store b alone = eq_false (block_digest b) first_digest
+    (by (digest_eq (block_digest b) first_digest) (is_other (block_at store (block_digest b)) b) alone)
   where
     by : (x y : Bool) → cond x true y ≡ false → x ≡ false
     by true y is = absurd (cc)
@@ -72,7 +74,8 @@ module _ (store : List Block) (b : Block) (stays : (d : Digest) (x : Block) → 
   parent_stays : (x : Block) → HasParent store x → HasParent after x
   parent_stays x p = record { parent = p.parent; found = at_stays x.cert.block p.parent p.found; view = p.view; below = p.below; other = p.other }
 
-  module _ (blocks : List Named) (tied : IsTied store blocks) (parent : Named) (at_parent : at store b.cert.block ≡ Some parent) (view : parent.view ≡ b.cert.view) (below : b.cert.view < b.view) where
+  module _ (blocks : List Named) (tied : IsTied store blocks) (parent : Named) (at_parent : at store b.cert.block ≡ Some parent)
+      (view : parent.view ≡ b.cert.view) (below : b.cert.view < b.view) where
     pub grows : IsTied after (blocks ++ named b ∷ [])
     grows = record {
       same = same;
@@ -96,10 +99,12 @@ module _ (store : List Block) (b : Block) (stays : (d : Digest) (x : Block) → 
         ]
 
         same : (d : Digest) → shown_at (blocks ++ named b ∷ []) d ≡ at after d
-        same d = last_shown blocks (named b) d ∙ ap (λ (o : Option Named). option_or o (cond (digest_eq (block_digest b) d) (Some (named b)) None)) (tied.same d) ∙ elim (cases_Bool (digest_eq (block_digest b) d)) [
-          | inl is ↦ rw is (here_same d (same_true (block_digest b) d is) (at store d) refl)
-          | inr not ↦ rw not (or_none (at store d) ∙ sym (at_elsewhere d (λ is. eq_false (block_digest b) d not (sym is))))
-        ]
+        same d = last_shown blocks (named b) d
+            ∙ ap (λ (o : Option Named). option_or o (cond (digest_eq (block_digest b) d) (Some (named b)) None)) (tied.same d)
+            ∙ elim (cases_Bool (digest_eq (block_digest b) d)) [
+              | inl is ↦ rw is (here_same d (same_true (block_digest b) d is) (at store d) refl)
+              | inr not ↦ rw not (or_none (at store d) ∙ sym (at_elsewhere d (λ is. eq_false (block_digest b) d not (sym is))))
+            ]
           where
             here_same : (d : Digest) → block_digest b ≡ d → (o : Option Named) → at store d ≡ o → option_or o (Some (named b)) ≡ at after d
             here_same d is None at_d = subst (λ (e : Digest). Some (named b) ≡ at after e) is (sym at_new)

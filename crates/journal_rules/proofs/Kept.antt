@@ -32,7 +32,8 @@ pub record RealSplit {X Y : Type 0} (f : X → Y) (xs : List X) (firsts : List Y
   pub first : map f before ≡ firsts
   pub same : f item ≡ y
 
-pub split_of_map : {X Y : Type 0} (f : X → Y) (xs : List X) (firsts : List Y) (y : Y) (others : List Y) → map f xs ≡ firsts ++ y ∷ others → RealSplit f xs firsts y
+pub split_of_map : {X Y : Type 0} (f : X → Y) (xs : List X) (firsts : List Y) (y : Y) (others : List Y) → map f xs ≡ firsts ++ y ∷ others
+    → RealSplit f xs firsts y
 split_of_map f [] [] y others is = absurd (cc)
 split_of_map f [] (b ∷ bs) y others is = absurd (cc)
 split_of_map f (x ∷ xs) [] y others is = let head : f x ≡ y = cc in record { before = []; item = x; after = xs; is = refl; first = refl; same = head }
@@ -52,11 +53,13 @@ split_of_map {X} {Y} f (x ∷ xs) (b ∷ bs) y others is =
 -- ---- stored blocks, one entry more
 
 pub stored_more : (prefix : List Plain) (x : Plain) (n : Named) → stored_by x ≡ Some n → stored (prefix ++ x ∷ []) ≡ stored prefix ++ n ∷ []
-stored_more prefix x n is = ap (λ (bs : List Named). first_block ∷ bs) (filter_map-append stored_by prefix (x ∷ []) ∙ ap (λ (o : Option Named). filter_map stored_by prefix ++ cons_option o []) is)
+stored_more prefix x n is = ap (λ (bs : List Named). first_block ∷ bs)
+    (filter_map-append stored_by prefix (x ∷ []) ∙ ap (λ (o : Option Named). filter_map stored_by prefix ++ cons_option o []) is)
 
 pub stored_same : (prefix : List Plain) (x : Plain) → stored_by x ≡ None → stored (prefix ++ x ∷ []) ≡ stored prefix
 stored_same prefix x is =
-    ap (λ (bs : List Named). first_block ∷ bs) (filter_map-append stored_by prefix (x ∷ []) ∙ ap (λ (o : Option Named). filter_map stored_by prefix ++ cons_option o []) is ∙ append-nil (filter_map stored_by prefix))
+    ap (λ (bs : List Named). first_block ∷ bs) (filter_map-append stored_by prefix (x ∷ [])
+    ∙ ap (λ (o : Option Named). filter_map stored_by prefix ++ cons_option o []) is ∙ append-nil (filter_map stored_by prefix))
 
 -- ---- what may be Done
 
@@ -84,7 +87,8 @@ good_shown fits s c (inr q) =
 valid_plainly : (by : Scale) (before : List Entry) (b : Block) → IsValidIn by before b → IsValidBlock by.setting (map shown before) (named b)
 valid_plainly by before b v = record { good = good_shown by.fits by.setting b.cert v.good; parent = v.parent; below = v.below }
 
-pub plainly : (by : Scale) (before : List Entry) (m : Option MessageView) → MayBeDone by before m → MayBeDonePlainly by.setting (map shown before) (shown_message m)
+pub plainly : (by : Scale) (before : List Entry) (m : Option MessageView) → MayBeDone by before m
+    → MayBeDonePlainly by.setting (map shown before) (shown_message m)
 plainly by before None h = tt
 plainly by before (Some (NewView call)) h = (good_shown by.fits by.setting call.cert h.0, h.1)
 plainly by before (Some (Ask call)) h = (good_shown by.fits by.setting call.cert h.0, h.1)
@@ -100,7 +104,8 @@ OneBlock : List Entry → Type 0
 OneBlock prefix = (a b : Named) → Contains (stored (map shown prefix)) a → Contains (stored (map shown prefix)) b → a.digest ≡ b.digest → a ≡ b
 
 -- it was stored before, or the last entry stored it
-last_stored : (before : List Entry) (e : Entry) (b : Named) → Contains (stored (map shown (before ++ e ∷ []))) b → Contains (stored (map shown before)) b ⊎ (stored_by (shown e) ≡ Some b)
+last_stored : (before : List Entry) (e : Entry) (b : Named) → Contains (stored (map shown (before ++ e ∷ []))) b
+    → Contains (stored (map shown before)) b ⊎ (stored_by (shown e) ≡ Some b)
 last_stored before e b inside = by (stored_by (shown e)) refl
   where
     grown : map shown (before ++ e ∷ []) ≡ map shown before ++ shown e ∷ []
@@ -108,13 +113,14 @@ last_stored before e b inside = by (stored_by (shown e)) refl
 
     by : (o : Option Named) → stored_by (shown e) ≡ o → Contains (stored (map shown before)) b ⊎ (stored_by (shown e) ≡ Some b)
     by None is = inl (subst (λ (z : List Named). Contains z b) (ap stored grown ∙ stored_same (map shown before) (shown e) is) inside)
-    by (Some n) is = elim (Contains-append_cases (stored (map shown before)) (n ∷ []) b (subst (λ (z : List Named). Contains z b) (ap stored grown ∙ stored_more (map shown before) (shown e) n is) inside)) [
-      | inl earlier ↦ inl earlier
-      | inr now ↦ elim (here_or_there n [] b now) [
-        | inl same ↦ inr (is ∙ ap (λ (z : Named). Some z) same)
-        | inr never ↦ absurd (none_inside b never)
-      ]
-    ]
+    by (Some n) is = elim (Contains-append_cases (stored (map shown before)) (n ∷ []) b
+        (subst (λ (z : List Named). Contains z b) (ap stored grown ∙ stored_more (map shown before) (shown e) n is) inside)) [
+          | inl earlier ↦ inl earlier
+          | inr now ↦ elim (here_or_there n [] b now) [
+            | inl same ↦ inr (is ∙ ap (λ (z : Named). Some z) same)
+            | inr never ↦ absurd (none_inside b never)
+          ]
+        ]
 
 one_more : (by : Scale) (before : List Entry) (e : Entry) → OneBlock before → Takes by before e → OneBlock (before ++ e ∷ [])
 unfolding OneBlock
@@ -129,7 +135,9 @@ one_more by before e one takes a b in_a in_b same = elim (last_stored before e a
   ]
 ]
 
-one_from : (by : Scale) (before rest : List Entry) → OneBlock before → ((firsts : List Entry) (e : Entry) (others : List Entry) → before ++ rest ≡ firsts ++ e ∷ others → Takes by firsts e) → OneBlock (before ++ rest)
+one_from : (by : Scale) (before rest : List Entry) → OneBlock before
+    → ((firsts : List Entry) (e : Entry) (others : List Entry) → before ++ rest ≡ firsts ++ e ∷ others → Takes by firsts e)
+    → OneBlock (before ++ rest)
 one_from by before [] one each = subst OneBlock (sym (append-nil before)) one
 one_from by before (e ∷ rest) one each =
     subst OneBlock (append_assoc before (e ∷ []) rest)
@@ -153,6 +161,7 @@ kept_of by prefix lawful = record {
       let r = split_of_map shown prefix firsts e others is in
       let takes : Takes by r.before r.item = lawful r.before r.item r.after r.is 2 in
       subst (λ (z : Plain). z.is_done ≡ true → MayBeDonePlainly by.setting firsts z.message) r.same
-      (λ d. subst (λ (fs : List Plain). MayBeDonePlainly by.setting fs (shown r.item).message) r.first (plainly by r.before (message_in r.item.event) (takes.done d))) done;
+      (λ d. subst (λ (fs : List Plain). MayBeDonePlainly by.setting fs (shown r.item).message) r.first
+      (plainly by r.before (message_in r.item.event) (takes.done d))) done;
   one_block = one_from by [] prefix one_first (λ firsts e others is. lawful firsts e others is 2);
 }

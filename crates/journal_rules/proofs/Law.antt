@@ -29,7 +29,8 @@ module _ (good_shows : (fits : ℕ → List ℕ → List ℕ → Bool) (s : Para
   is_found by journal = found by (shows by) journal
 
   pub none_found : (by : Scale) (journal : List Entry) → (first_broken by journal ≡ None) ↔ IsLawful by journal
-  none_found by journal = ((λ is. subst (Found by journal) is (is_found by journal)), (λ lawful. nothing (first_broken by journal) (is_found by journal) lawful))
+  none_found by journal =
+      ((λ is. subst (Found by journal) is (is_found by journal)), (λ lawful. nothing (first_broken by journal) (is_found by journal) lawful))
     where
       nothing : (o : Option Place) → Found by journal o → IsLawful by journal → o ≡ None
       nothing None says lawful = refl

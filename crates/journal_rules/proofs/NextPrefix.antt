@@ -20,24 +20,29 @@ use Rattle.journal_rules.proofs.Stores.{lock_sees, commit_sees, lock_below}
 
 -- the laws on locks and commits, as the lower crate states them
 abbrev pub LocksMove : Type 0
-LocksMove = (s : Parameters) (before : List Shown) (e : Shown) → IsKeptPrefix s (before ++ e ∷ []) → lock s (before ++ e ∷ []) ≡ lock_seen (stored before) (lock s before) (taken_by s (before ++ e ∷ []) e)
+LocksMove = (s : Parameters) (before : List Shown) (e : Shown) → IsKeptPrefix s (before ++ e ∷ [])
+    → lock s (before ++ e ∷ []) ≡ lock_seen (stored before) (lock s before) (taken_by s (before ++ e ∷ []) e)
 
 abbrev pub CommitsMove : Type 0
-CommitsMove = (s : Parameters) (before : List Shown) (e : Shown) → IsKeptPrefix s (before ++ e ∷ []) → commit s (before ++ e ∷ []) ≡ commit_seen (stored before) (commit s before) (taken_by s (before ++ e ∷ []) e)
+CommitsMove = (s : Parameters) (before : List Shown) (e : Shown) → IsKeptPrefix s (before ++ e ∷ [])
+    → commit s (before ++ e ∷ []) ≡ commit_seen (stored before) (commit s before) (taken_by s (before ++ e ∷ []) e)
 
 pub record AllMove : Type 0 where
   pub locks : LocksMove
   pub commits : CommitsMove
 
-pub lawful_more : (s : Parameters) (prefix : List Shown) (x : Shown) (voted : ℕ) → KeepsVotingRule s prefix → (x.is_done ≡ true → MayBeDone s prefix x.message) → All (IsLawfulVote s prefix x) x.sealed
+pub lawful_more : (s : Parameters) (prefix : List Shown) (x : Shown) (voted : ℕ) → KeepsVotingRule s prefix
+    → (x.is_done ≡ true → MayBeDone s prefix x.message) → All (IsLawfulVote s prefix x) x.sealed
     → All (λ b. b.view ≤ voted) (sealed_in prefix) → AllPairs (λ a b. a.view < b.view) (sealed_in prefix ++ x.sealed) → KeepsVotingRule s (prefix ++ x ∷ [])
 lawful_more s prefix x voted lawful done votes below ascending = record {
   done = each_more (λ before e. e.is_done ≡ true → MayBeDone s before e.message) prefix x lawful.done done;
   votes = each_more (λ before e. All (IsLawfulVote s before e) e.sealed) prefix x lawful.votes votes;
-  ascending = subst (λ (bs : List Ballot). AllPairs (λ a b. a.view < b.view) bs) (sym (flat_map-append (λ (e : Shown). e.sealed) prefix (x ∷ []) ∙ ap (λ (bs : List Ballot). sealed_in prefix ++ bs) (append-nil x.sealed))) ascending;
+  ascending = subst (λ (bs : List Ballot). AllPairs (λ a b. a.view < b.view) bs)
+      (sym (flat_map-append (λ (e : Shown). e.sealed) prefix (x ∷ []) ∙ ap (λ (bs : List Ballot). sealed_in prefix ++ bs) (append-nil x.sealed))) ascending;
 }
 
-module _ (laws : AllMove) (s : Parameters) (store : List Block) (safe : Safe) (high : ℕ) (prefix : List Shown) (x : Shown) (tied : SafeTied s store safe high prefix)
+module _ (laws : AllMove) (s : Parameters) (store : List Block) (safe : Safe) (high : ℕ) (prefix : List Shown) (x : Shown)
+    (tied : SafeTied s store safe high prefix)
     (lawful : KeepsVotingRule s (prefix ++ x ∷ [])) where
   abbrev after : List Shown
   after = prefix ++ x ∷ []
@@ -67,20 +72,26 @@ module _ (laws : AllMove) (s : Parameters) (store : List Block) (safe : Safe) (h
       }
 
   -- an entry that delivers a certificate for a stored block, and perhaps a block
-  module _ (c : Digest) (view : ℕ) (b : Named) (found : at store c ≡ Some b) (is_view : b.view ≡ view) (takes : taken_by s after x ≡ Some c) (higher : ℕ) (above : max high view ≤ higher)
+  module _ (c : Digest) (view : ℕ) (b : Named) (found : at store c ≡ Some b) (is_view : b.view ≡ view) (takes : taken_by s after x ≡ Some c)
+      (higher : ℕ) (above : max high view ≤ higher)
       (new : List Block) (stores : IsTied new (stored after)) (stays : (d : Digest) (n : Named) → at store d ≡ Some n → at new d ≡ Some n) where
     pub sees : SafeTied s new (seen_in store view c safe) higher after
     sees =
         let kept : IsKeptPrefix s after = kept_with new stores in
-        let lock_is : lock s after ≡ lock_seen (stored prefix) (lock s prefix) (Some c) = laws.locks s prefix x kept ∙ ap (lock_seen (stored prefix) (lock s prefix)) takes in
-        let commit_is : commit s after ≡ commit_seen (stored prefix) (commit s prefix) (Some c) = laws.commits s prefix x kept ∙ ap (commit_seen (stored prefix) (commit s prefix)) takes in
+        let lock_is : lock s after ≡ lock_seen (stored prefix) (lock s prefix) (Some c) =
+        laws.locks s prefix x kept ∙ ap (lock_seen (stored prefix) (lock s prefix)) takes in
+        let commit_is : commit s after ≡ commit_seen (stored prefix) (commit s prefix) (Some c) =
+        laws.commits s prefix x kept ∙ ap (commit_seen (stored prefix) (commit s prefix)) takes in
         let now_lock : at store (seen_in store view c safe).lock ≡ Some (lock_seen (stored prefix) (lock s prefix) (Some c)) =
         lock_sees store (stored prefix) tied.stores safe view c b found is_view (lock s prefix) tied.at_lock in
         let now_commit : at store (seen_in store view c safe).committed ≡ Some (commit_seen (stored prefix) (commit s prefix) (Some c)) =
         commit_sees store (stored prefix) tied.stores safe view c b found is_view (commit s prefix) tied.at_commit in
         record {
           stores = stores;
-          at_lock = stays (seen_in store view c safe).lock (lock_seen (stored prefix) (lock s prefix) (Some c)) now_lock ∙ ap (λ (n : Named). Some n) (sym lock_is);
-          at_commit = stays (seen_in store view c safe).committed (commit_seen (stored prefix) (commit s prefix) (Some c)) now_commit ∙ ap (λ (n : Named). Some n) (sym commit_is);
-          low = subst (λ (n : Named). n.view ≤ higher) (sym lock_is) (omega (arith, above, lock_below store (stored prefix) tied.stores safe view c b found is_view (lock s prefix) high tied.at_lock tied.low));
+          at_lock = stays (seen_in store view c safe).lock (lock_seen (stored prefix) (lock s prefix) (Some c)) now_lock
+              ∙ ap (λ (n : Named). Some n) (sym lock_is);
+          at_commit = stays (seen_in store view c safe).committed (commit_seen (stored prefix) (commit s prefix) (Some c)) now_commit
+              ∙ ap (λ (n : Named). Some n) (sym commit_is);
+          low = subst (λ (n : Named). n.view ≤ higher) (sym lock_is)
+              (omega (arith, above, lock_below store (stored prefix) tied.stores safe view c b found is_view (lock s prefix) high tied.at_lock tied.low));
         }

@@ -30,7 +30,8 @@ abbrev pub ReadsSpellings : Type 0
 ReadsSpellings = (m : Message) → IsWritable m → read_of (message_spelling m) ≡ Ok (view_of m)
 
 -- the rules except one
-pub others : (by : Scale) (before : List Entry) (e : Entry) (rule : ℕ) → (1 ≢ rule → Knows by before e) → (2 ≢ rule → Takes by before e) → (3 ≢ rule → Draws by before e)
+pub others : (by : Scale) (before : List Entry) (e : Entry) (rule : ℕ) → (1 ≢ rule → Knows by before e) → (2 ≢ rule → Takes by before e)
+    → (3 ≢ rule → Draws by before e)
     → (4 ≢ rule → Rises by before e) → (5 ≢ rule → Votes by before e) → (k : ℕ) → k ≢ rule → Keeps by before e k
 others by before e rule a b c d f zero other = tt
 others by before e rule a b c d f (suc zero) other = a other
@@ -52,7 +53,8 @@ abbrev pub NamesReplica0 : List ℕ → Type 0
 NamesReplica0 statement = replica_named statement ≡ 0
 
 -- an entry that is Done and stores nothing
-takes_nothing : (by : Scale) (e : Entry) → is_done e.turned.reason ≡ true → MayBeDone by [] (message_in e.event) → ((b : Named) → stored_by (shown e) ≡ Some b → ⊥)
+takes_nothing : (by : Scale) (e : Entry) → is_done e.turned.reason ≡ true → MayBeDone by [] (message_in e.event)
+    → ((b : Named) → stored_by (shown e) ≡ Some b → ⊥)
     → All (λ statement. replica_named statement ≡ by.replica) e.turned.sealed → AllPairs (λ a b. a ≢ b) (marks_in (sealed_in (up_to [] e))) → Takes by [] e
 takes_nothing by e done may none own once = record {
   idle = λ not. (let never : true ≡ false = sym done ∙ not in absurd (cc));
@@ -85,7 +87,8 @@ breaks_knows = (
   λ knows. absurd (omega (arith, knows.all)),
   others (one_arrives all_fit) [] forgetting 1 (itself 1)
       (λ o. takes_nothing (one_arrives all_fit) forgetting refl tt (λ b is. none-some b is) (All-nil NamesReplica0) (few_marks [] (omega arith)))
-      (λ o. All-nil (drawn_if (one_arrives all_fit) forgetting)) (λ o. (no_votes (one_arrives all_fit) forgetting refl).0) (λ o. (no_votes (one_arrives all_fit) forgetting refl).1),
+      (λ o. All-nil (drawn_if (one_arrives all_fit) forgetting)) (λ o. (no_votes (one_arrives all_fit) forgetting refl).0)
+      (λ o. (no_votes (one_arrives all_fit) forgetting refl).1),
 )
 
 pub breaks_idle : BreaksAlone (one_arrives all_fit) taking_without_doing 2
@@ -93,7 +96,8 @@ breaks_idle = (
   nothing_broken (one_arrives all_fit),
   λ takes. (let none : tx ∷ [] ≡ [] = (takes.idle refl).0 in absurd (cc)),
   others (one_arrives all_fit) [] taking_without_doing 2 (λ o. record { first = refl; all = refl }) (itself 2)
-      (λ o. All-nil (drawn_if (one_arrives all_fit) taking_without_doing)) (λ o. (no_votes (one_arrives all_fit) taking_without_doing refl).0) (λ o. (no_votes (one_arrives all_fit) taking_without_doing refl).1),
+      (λ o. All-nil (drawn_if (one_arrives all_fit) taking_without_doing)) (λ o. (no_votes (one_arrives all_fit) taking_without_doing refl).0)
+      (λ o. (no_votes (one_arrives all_fit) taking_without_doing refl).1),
 )
 
 abbrev naming : List ℕ
@@ -104,7 +108,8 @@ breaks_own = (
   nothing_broken (one_arrives all_fit),
   λ takes. (let one : 1 ≡ 0 = All-head NamesReplica0 naming [] takes.own in absurd (omega (arith, one))),
   others (one_arrives all_fit) [] naming_another 2 (λ o. record { first = refl; all = refl }) (itself 2)
-      (λ o. All-cons (drawn_if (one_arrives all_fit) naming_another) naming [] (λ is. absurd (omega (arith, is))) (All-nil (drawn_if (one_arrives all_fit) naming_another)))
+      (λ o. All-cons (drawn_if (one_arrives all_fit) naming_another) naming [] (λ is. absurd (omega (arith, is)))
+      (All-nil (drawn_if (one_arrives all_fit) naming_another)))
       (λ o. (no_votes (one_arrives all_fit) naming_another refl).0) (λ o. (no_votes (one_arrives all_fit) naming_another refl).1),
 )
 
@@ -114,7 +119,8 @@ breaks_once = (
   λ takes. takes.once 0 1 (record { kind = NEW_VIEW; view = 1 }) (omega arith) (omega arith) refl,
   others (one_arrives all_fit) [] calling_twice 2 (λ o. record { first = refl; all = refl }) (itself 2)
       (λ o. All-cons (drawn_if (one_arrives all_fit) calling_twice) call (call ∷ []) (λ is. absurd (omega (arith, is)))
-      (All-cons (drawn_if (one_arrives all_fit) calling_twice) call [] (λ is. absurd (omega (arith, is))) (All-nil (drawn_if (one_arrives all_fit) calling_twice))))
+      (All-cons (drawn_if (one_arrives all_fit) calling_twice) call [] (λ is. absurd (omega (arith, is)))
+      (All-nil (drawn_if (one_arrives all_fit) calling_twice))))
       (λ o. (no_votes (one_arrives all_fit) calling_twice refl).0) (λ o. (no_votes (one_arrives all_fit) calling_twice refl).1),
 )
 
@@ -124,26 +130,37 @@ long_spelling o = omega (arith, length-append (o.parent.0 ++ txs_spelling o.fres
 pub breaks_draws : BreaksAlone (one_arrives all_fit) sealing_no_order 3
 breaks_draws = (
   nothing_broken (one_arrives all_fit),
-  λ draws. (let d : IsDrawn (one_arrives all_fit) [] sealing_no_order (ORDER ∷ 0 ∷ 0 ∷ 0 ∷ 0 ∷ 1 ∷ []) = All-head (drawn_if (one_arrives all_fit) sealing_no_order) (ORDER ∷ 0 ∷ 0 ∷ 0 ∷ 0 ∷ 1 ∷ []) [] draws refl in
+  λ draws. (let d : IsDrawn (one_arrives all_fit) [] sealing_no_order (ORDER ∷ 0 ∷ 0 ∷ 0 ∷ 0 ∷ 1 ∷ []) =
+      All-head (drawn_if (one_arrives all_fit) sealing_no_order) (ORDER ∷ 0 ∷ 0 ∷ 0 ∷ 0 ∷ 1 ∷ []) [] draws refl in
       let o : LocalOrder = order_named (one_arrives all_fit) [] sealing_no_order (ORDER ∷ 0 ∷ 0 ∷ 0 ∷ 0 ∷ 1 ∷ []) in
       let same : 6 ≡ length (order_spelling o) = ap (λ (xs : List ℕ). length xs) d.spelled in
       let long : 6 < length (order_spelling o) = long_spelling o in
       absurd (omega (arith, same, long))),
   others (one_arrives all_fit) [] sealing_no_order 3 (λ o. record { first = refl; all = refl })
-      (λ o. takes_nothing (one_arrives all_fit) sealing_no_order refl tt (λ b is. none-some b is) (All-cons NamesReplica0 (ORDER ∷ 0 ∷ 0 ∷ 0 ∷ 0 ∷ 1 ∷ []) [] refl (All-nil NamesReplica0)) (few_marks (record { kind = ORDER; view = 1 } ∷ []) (omega arith))) (itself 3)
+      (λ o. takes_nothing (one_arrives all_fit) sealing_no_order refl tt
+      (λ b is. none-some b is) (All-cons NamesReplica0 (ORDER ∷ 0 ∷ 0 ∷ 0 ∷ 0 ∷ 1 ∷ []) [] refl (All-nil NamesReplica0))
+      (few_marks (record { kind = ORDER; view = 1 } ∷ []) (omega arith))) (itself 3)
       (λ o. (no_votes (one_arrives all_fit) sealing_no_order refl).0) (λ o. (no_votes (one_arrives all_fit) sealing_no_order refl).1),
 )
 
 pub breaks_votes : BreaksAlone (one_arrives all_fit) voting_for_nothing 5
 breaks_votes = (
   nothing_broken (one_arrives all_fit),
-  λ votes. (let v : IsVoteFor (one_arrives all_fit) [] voting_for_nothing (ballot 1 (record { 0 = [] })) = All-head (IsVoteFor (one_arrives all_fit) [] voting_for_nothing) (ballot 1 (record { 0 = [] })) [] votes in
+  λ votes. (let v : IsVoteFor (one_arrives all_fit) [] voting_for_nothing (ballot 1 (record { 0 = [] })) =
+      All-head (IsVoteFor (one_arrives all_fit) [] voting_for_nothing) (ballot 1 (record { 0 = [] })) [] votes in
       let other : Plain.Other ≡ Plain.Propose v.block = v.delivered in
       absurd (cc)),
   others (one_arrives all_fit) [] voting_for_nothing 5 (λ o. record { first = refl; all = refl })
-      (λ o. takes_nothing (one_arrives all_fit) voting_for_nothing refl tt (λ b is. none-some b is) (All-cons NamesReplica0 (VOTE ∷ 0 ∷ 0 ∷ 0 ∷ 0 ∷ 1 ∷ []) [] refl (All-nil NamesReplica0)) (few_marks (record { kind = VOTE; view = 1 } ∷ []) (omega arith)))
-      (λ o. All-cons (drawn_if (one_arrives all_fit) voting_for_nothing) (VOTE ∷ 0 ∷ 0 ∷ 0 ∷ 0 ∷ 1 ∷ []) [] (λ is. absurd (omega (arith, is))) (All-nil (drawn_if (one_arrives all_fit) voting_for_nothing)))
-      (λ o. record { rise = λ i j d less inside. absurd (omega (arith, less, inside)); above_lock = All-cons (λ (v : Ballot). 0 < v.view) (ballot 1 (record { 0 = [] })) [] (omega arith) (All-nil (λ (v : Ballot). 0 < v.view)) })
+      (λ o. takes_nothing (one_arrives all_fit) voting_for_nothing refl tt
+      (λ b is. none-some b is) (All-cons NamesReplica0 (VOTE ∷ 0 ∷ 0 ∷ 0 ∷ 0 ∷ 1 ∷ []) [] refl (All-nil NamesReplica0))
+      (few_marks (record { kind = VOTE; view = 1 } ∷ []) (omega arith)))
+      (λ o. All-cons (drawn_if (one_arrives all_fit) voting_for_nothing) (VOTE ∷ 0 ∷ 0 ∷ 0 ∷ 0 ∷ 1 ∷ []) []
+      (λ is. absurd (omega (arith, is))) (All-nil (drawn_if (one_arrives all_fit) voting_for_nothing)))
+      (λ o.
+      record {
+        rise = λ i j d less inside. absurd (omega (arith, less, inside));
+        above_lock = All-cons (λ (v : Ballot). 0 < v.view) (ballot 1 (record { 0 = [] })) [] (omega arith) (All-nil (λ (v : Ballot). 0 < v.view));
+      })
       (itself 5),
 )
 

@@ -26,5 +26,6 @@ parent_of_order o long =
     let rest : List ℕ = o.parent.0 ++ txs_spelling o.fresh ++ txs_spelling o.late in
     let following : drop 6 (order_spelling o) ≡ rest = drop_at (to_be_bytes w8 o.replica ++ to_be_bytes w32 o.view) rest 5 refl in
     let named : take 32 (drop 6 (order_spelling o)) ≡ o.parent.0 =
-    ap (take 32) (following ∙ append_assoc o.parent.0 (txs_spelling o.fresh) (txs_spelling o.late)) ∙ take_at o.parent.0 (txs_spelling o.fresh ++ txs_spelling o.late) 32 long in
+    ap (take 32) (following ∙ append_assoc o.parent.0 (txs_spelling o.fresh) (txs_spelling o.late))
+    ∙ take_at o.parent.0 (txs_spelling o.fresh ++ txs_spelling o.late) 32 long in
     ap digest_of named

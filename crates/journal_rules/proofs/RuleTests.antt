@@ -53,7 +53,8 @@ implies false b da db = ((λ yes h. absurd (false≢true (da.1 h))), (λ f. refl
 pub all_decide : {X : Type 0} (p : X → Bool) (P : X → Type 0) → ((x : X) → Decides (p x) (P x)) → (xs : List X) → Decides (list_all p xs) (All P xs)
 all_decide p P each xs = Decides-by_and p P (list_all p) each refl (λ x xs. refl) xs
 
-pub pairs_decide : {X : Type 0} (p : X → X → Bool) (R : X → X → Type 0) → ((x y : X) → Decides (p x y) (R x y)) → (xs : List X) → Decides (all_pairs p xs) (AllPairs R xs)
+pub pairs_decide : {X : Type 0} (p : X → X → Bool) (R : X → X → Type 0) → ((x y : X) → Decides (p x y) (R x y)) → (xs : List X)
+    → Decides (all_pairs p xs) (AllPairs R xs)
 pairs_decide p R each [] = ((λ yes i j d less inside. absurd (omega (arith, inside))), (λ h. refl))
 pairs_decide p R each (x ∷ xs) =
     restate (list_all (p x) xs && all_pairs p xs)
@@ -69,7 +70,8 @@ pub first_shows : (by : Scale) (before : List Entry) (e : Entry) → Decides (kn
 first_shows by before e =
     restate (knows by before e)
     (Decides-and (pointwise _ (arrived_in (up_to before e)) (take e.turned.kept by.arrivals)) (e.turned.kept == length (arrived_in (up_to before e)))
-    (pointwise_decides tx_eq_decides (arrived_in (up_to before e)) (take e.turned.kept by.arrivals)) (unsigned_Decides e.turned.kept (length (arrived_in (up_to before e)))))
+    (pointwise_decides tx_eq_decides (arrived_in (up_to before e)) (take e.turned.kept by.arrivals))
+    (unsigned_Decides e.turned.kept (length (arrived_in (up_to before e)))))
     (λ both. record { first = both.0; all = both.1 }) (λ k. (k.first, k.all))
 
 -- ---- rule 3
@@ -77,14 +79,17 @@ first_shows by before e =
 drawn_shows : (by : Scale) (before : List Entry) (e : Entry) (statement : List ℕ) → Decides (is_drawn by before e statement) (IsDrawn by before e statement)
 drawn_shows by before e statement =
     restate (is_drawn by before e statement)
-    (Decides-and (is_some (block_at (stored_in (up_to before e)) (parent_named statement))) (pointwise ◌==◌ statement (order_spelling (order_named by before e statement)))
+    (Decides-and (is_some (block_at (stored_in (up_to before e)) (parent_named statement)))
+    (pointwise ◌==◌ statement (order_spelling (order_named by before e statement)))
     (itself _) (bytes_decides statement (order_spelling (order_named by before e statement))))
     (λ both. record { stored = both.0; spelled = both.1 }) (λ d. (d.stored, d.spelled))
 
 pub third_shows : (by : Scale) (before : List Entry) (e : Entry) → Decides (draws by before e) (Draws by before e)
 third_shows by before e =
-    all_decide (λ statement. not (get_or statement 0 0 == ORDER) || is_drawn by before e statement) (λ statement. get_or statement 0 0 ≡ ORDER → IsDrawn by before e statement)
-    (λ statement. implies (get_or statement 0 0 == ORDER) (is_drawn by before e statement) (unsigned_Decides (get_or statement 0 0) ORDER) (drawn_shows by before e statement))
+    all_decide (λ statement. not (get_or statement 0 0 == ORDER) || is_drawn by before e statement)
+    (λ statement. get_or statement 0 0 ≡ ORDER → IsDrawn by before e statement)
+    (λ statement. implies (get_or statement 0 0 == ORDER) (is_drawn by before e statement) (unsigned_Decides (get_or statement 0 0) ORDER)
+    (drawn_shows by before e statement))
     e.turned.sealed
 
 -- ---- rule 4
@@ -93,8 +98,10 @@ pub fourth_shows : (by : Scale) (before : List Entry) (e : Entry) → Decides (r
 fourth_shows by before e =
     restate (rises by before e)
     (Decides-and (rise (ballots_in (map shown (up_to before e)))) (list_all (λ (v : Ballot). nat_lt (lock_in by.setting before).view v.view) (ballots_by e))
-    (pairs_decide (λ (a b : Ballot). nat_lt a.view b.view) (λ a b. a.view < b.view) (λ a b. Decides-ltb a.view b.view) (ballots_in (map shown (up_to before e))))
-    (all_decide (λ (v : Ballot). nat_lt (lock_in by.setting before).view v.view) (λ v. (lock_in by.setting before).view < v.view) (λ v. Decides-ltb (lock_in by.setting before).view v.view) (ballots_by e)))
+    (pairs_decide (λ (a b : Ballot). nat_lt a.view b.view) (λ a b. a.view < b.view) (λ a b. Decides-ltb a.view b.view)
+    (ballots_in (map shown (up_to before e))))
+    (all_decide (λ (v : Ballot). nat_lt (lock_in by.setting before).view v.view) (λ v. (lock_in by.setting before).view < v.view)
+    (λ v. Decides-ltb (lock_in by.setting before).view v.view) (ballots_by e)))
     (λ both. record { rise = both.0; above_lock = both.1 }) (λ r. (r.rise, r.above_lock))
 
 -- ---- rule 2
@@ -124,7 +131,8 @@ named_decides : (a b : Named) → Decides (named_eq a b) (a ≡ b)
 unfolding make_named
 named_decides a b =
     restate (named_eq a b)
-    (Decides-and (digest_eq a.digest b.digest) (block_eq (block_named a) (block_named b)) (digest_eq_decides a.digest b.digest) (block_eq_decides (block_named a) (block_named b)))
+    (Decides-and (digest_eq a.digest b.digest) (block_eq (block_named a) (block_named b)) (digest_eq_decides a.digest b.digest)
+    (block_eq_decides (block_named a) (block_named b)))
     (λ both. ap (λ (d : Digest). make_named d (block_named a)) both.0 ∙ ap (λ (x : Block). make_named b.digest x) both.1)
     (λ same. (ap (λ (n : Named). n.digest) same, ap block_named same))
 
@@ -139,7 +147,8 @@ alone_decides prefix (Some b) =
     (λ both d is. let same : b ≡ d = cc in subst (StandsAlone prefix) same (record { one = both.1; other = both.0 }))
     (λ f. ((f b refl).other, (f b refl).one))
 
-module _ (good_shows : (fits : ℕ → List ℕ → List ℕ → Bool) (s : Parameters) (c : Cert) → Decides (is_good fits s c) (IsGood fits s c)) (by : Scale) (before : List Entry) (kept : IsKeptPrefix by.setting (map shown before)) where
+module _ (good_shows : (fits : ℕ → List ℕ → List ℕ → Bool) (s : Parameters) (c : Cert) → Decides (is_good fits s c) (IsGood fits s c))
+    (by : Scale) (before : List Entry) (kept : IsKeptPrefix by.setting (map shown before)) where
   stored_decides : (d : Digest) (v : ℕ) → Decides (is_stored_at (stored_in before) d v) (IsStored (map shown before) d v)
   stored_decides d v = (
     yes (block_at (stored_in before) d) refl,
@@ -160,8 +169,10 @@ module _ (good_shows : (fits : ℕ → List ℕ → List ℕ → Bool) (s : Para
   orders_decide b = all_decide
       (λ (x : SealedOrder). (x.order.view == b.view) && (digest_eq x.order.parent b.cert.block && nat_lt x.order.replica by.setting.n))
       (λ x. (x.order.view ≡ b.view) × ((x.order.parent ≡ b.cert.block) × (x.order.replica < by.setting.n)))
-      (λ x. Decides-and (x.order.view == b.view) (digest_eq x.order.parent b.cert.block && nat_lt x.order.replica by.setting.n) (unsigned_Decides x.order.view b.view)
-      (Decides-and (digest_eq x.order.parent b.cert.block) (nat_lt x.order.replica by.setting.n) (digest_eq_decides x.order.parent b.cert.block) (Decides-ltb x.order.replica by.setting.n)))
+      (λ x. Decides-and (x.order.view == b.view) (digest_eq x.order.parent b.cert.block && nat_lt x.order.replica by.setting.n)
+      (unsigned_Decides x.order.view b.view)
+      (Decides-and (digest_eq x.order.parent b.cert.block) (nat_lt x.order.replica by.setting.n)
+      (digest_eq_decides x.order.parent b.cert.block) (Decides-ltb x.order.replica by.setting.n)))
       b.orders
 
   valid_decides : (b : Block) → Decides (is_valid_in by before b) (IsValidIn by before b)
@@ -172,8 +183,10 @@ module _ (good_shows : (fits : ℕ → List ℕ → List ℕ → Bool) (s : Para
       (Decides-and (nat_lt b.cert.view b.view) _ (Decides-ltb b.cert.view b.view)
       (Decides-and (length b.orders == quorum_of by.setting) _ (unsigned_Decides (length b.orders) (quorum_of by.setting))
       (Decides-and _ _ (orders_decide b)
-      (Decides-and (list_all (is_sealed by.fits) b.orders) _ (all_decide (is_sealed by.fits) (λ x. is_sealed by.fits x ≡ true) (λ x. itself (is_sealed by.fits x)) b.orders)
-      (all_decide (λ (x : SealedOrder). fits_chain (standing_at by.setting before b.cert.block) x.order) (λ x. fits_chain (standing_at by.setting before b.cert.block) x.order ≡ true)
+      (Decides-and (list_all (is_sealed by.fits) b.orders)
+      _ (all_decide (is_sealed by.fits) (λ x. is_sealed by.fits x ≡ true) (λ x. itself (is_sealed by.fits x)) b.orders)
+      (all_decide (λ (x : SealedOrder). fits_chain (standing_at by.setting before b.cert.block) x.order)
+      (λ x. fits_chain (standing_at by.setting before b.cert.block) x.order ≡ true)
       (λ x. itself (fits_chain (standing_at by.setting before b.cert.block) x.order)) b.orders)))))))
       (λ p. record {
         good = p.0;
@@ -186,10 +199,14 @@ module _ (good_shows : (fits : ℕ → List ℕ → List ℕ → Bool) (s : Para
         seals = p.1.1.1.1.1.0;
         lists = p.1.1.1.1.1.1;
       })
-      (λ v. (v.good, (v.parent, (v.below, (v.count, ((λ k d within. (v.views k d within, (v.parents k d within, v.replicas k d within))), (v.seals, v.lists)))))))
+      (λ v.
+      (v.good, (v.parent, (v.below, (v.count, ((λ k d within. (v.views k d within, (v.parents k d within, v.replicas k d within))), (v.seals, v.lists)))))))
 
-  cert_decides : (c : Cert) → Decides (is_good by.fits by.setting c && is_stored_at (stored_in before) c.block c.view) (IsGood by.fits by.setting c × IsStored (map shown before) c.block c.view)
-  cert_decides c = Decides-and (is_good by.fits by.setting c) (is_stored_at (stored_in before) c.block c.view) (good_shows by.fits by.setting c) (stored_decides c.block c.view)
+  cert_decides : (c : Cert)
+      → Decides (is_good by.fits by.setting c && is_stored_at (stored_in before) c.block c.view)
+      (IsGood by.fits by.setting c × IsStored (map shown before) c.block c.view)
+  cert_decides c = Decides-and (is_good by.fits by.setting c) (is_stored_at (stored_in before) c.block c.view)
+      (good_shows by.fits by.setting c) (stored_decides c.block c.view)
 
   done_decides : (m : Option MessageView) → Decides (may_be_done by before m) (MayBeDone by before m)
   done_decides None = ((λ yes. tt), (λ h. refl))
@@ -211,11 +228,14 @@ module _ (good_shows : (fits : ℕ → List ℕ → List ℕ → Bool) (s : Para
   second_shows e =
       restate (takes by before e)
       (Decides-and (is_done e.turned.reason || (is_none (arrived_by e.event) && is_none e.turned.sealed)) _
-      (idle_decides (is_done e.turned.reason) (is_none (arrived_by e.event)) (is_none e.turned.sealed) (arrived_by e.event ≡ []) (e.turned.sealed ≡ []) (none_decides (arrived_by e.event)) (none_decides e.turned.sealed))
+      (idle_decides (is_done e.turned.reason) (is_none (arrived_by e.event)) (is_none e.turned.sealed) (arrived_by e.event ≡ [])
+      (e.turned.sealed ≡ []) (none_decides (arrived_by e.event)) (none_decides e.turned.sealed))
       (Decides-and (are_own by.replica e.turned.sealed) _
-      (all_decide (λ statement. replica_named statement == by.replica) (λ statement. replica_named statement ≡ by.replica) (λ statement. unsigned_Decides (replica_named statement) by.replica) e.turned.sealed)
+      (all_decide (λ statement. replica_named statement == by.replica) (λ statement. replica_named statement ≡ by.replica)
+      (λ statement. unsigned_Decides (replica_named statement) by.replica) e.turned.sealed)
       (Decides-and (are_apart (marks_in (sealed_in (up_to before e)))) _
-      (pairs_decide (λ (a b : Mark). not (mark_eq a b)) (λ a b. a ≢ b) (λ a b. Decides-not (mark_eq a b) (mark_decides a b)) (marks_in (sealed_in (up_to before e))))
+      (pairs_decide (λ (a b : Mark). not (mark_eq a b)) (λ a b. a ≢ b) (λ a b. Decides-not (mark_eq a b) (mark_decides a b))
+      (marks_in (sealed_in (up_to before e))))
       (Decides-and (not (is_done e.turned.reason) || may_be_done by before (message_in e.event)) _
       (implies (is_done e.turned.reason) (may_be_done by before (message_in e.event)) (itself (is_done e.turned.reason)) (done_decides (message_in e.event)))
       (alone_decides before (stored_by (shown e)))))))

@@ -141,7 +141,8 @@ module _ (store : List Block) (blocks : List Named) (tied : IsTied store blocks)
       rw (is, ← same, other, tied.same x.cert.block, p.found) p.found)
 
   -- what changes only to a greater view
-  pub moved_same : (d : Digest) (b : Named) → at store d ≡ Some b → (o : Option Digest) (p : Option Named) → IsSame o p → at store (unwrap_or (moved store d o) d) ≡ Some (higher b p)
+  pub moved_same : (d : Digest) (b : Named) → at store d ≡ Some b → (o : Option Digest) (p : Option Named) → IsSame o p
+      → at store (unwrap_or (moved store d o) d) ≡ Some (higher b p)
   moved_same d b found None None same = found
   moved_same d b found None (Some p) same = absurd same
   moved_same d b found (Some e) None same = absurd same
@@ -150,7 +151,8 @@ module _ (store : List Block) (blocks : List Named) (tied : IsTied store blocks)
     | inr not ↦ rw (at_view store d b found, at_view store e p same, not) found
   ]
 
-  head_if_same : (view : ℕ) (b p g : Named) (e h : Digest) → b.view ≡ view → at store e ≡ Some p → at store h ≡ Some g → IsSame (rules.head_if store view e h) (head_if b p g)
+  head_if_same : (view : ℕ) (b p g : Named) (e h : Digest) → b.view ≡ view → at store e ≡ Some p → at store h ≡ Some g
+      → IsSame (rules.head_if store view e h) (head_if b p g)
   head_if_same view b p g e h is found other =
       rw (at_view store e p found, at_view store h g other, ← is)
       (by (b.view == p.view + 1) (p.view == g.view + 1))
@@ -172,7 +174,8 @@ module _ (store : List Block) (blocks : List Named) (tied : IsTied store blocks)
       top e p at_e (Some h) (Some g) same = head_if_same view b p g e h is at_e same
 
       up : (o : Option Digest) (p : Option Named) → IsSame o p
-          → IsSame (option_and_then (λ e. option_and_then (rules.head_if store view e) (parent_of store e)) o) (option_and_then (λ p. option_and_then (λ g. head_if b p g) (parent_in blocks p)) p)
+          → IsSame (option_and_then (λ e. option_and_then (rules.head_if store view e) (parent_of store e)) o)
+          (option_and_then (λ p. option_and_then (λ g. head_if b p g) (parent_in blocks p)) p)
       up None None same = tt
       up None (Some p) same = absurd same
       up (Some e) None same = absurd same
@@ -190,9 +193,11 @@ module _ (store : List Block) (blocks : List Named) (tied : IsTied store blocks)
     pub lock_sees : (locked : Named) → at store s.lock ≡ Some locked → at store (seen_in store view c s).lock ≡ Some (lock_seen blocks locked (Some c))
     lock_sees locked at_lock = rw (shown_parent c b found) (moved_same s.lock locked at_lock (parent_of store c) (parent_in blocks b) (parent_same c b found))
 
-    pub commit_sees : (committed : Named) → at store s.committed ≡ Some committed → at store (seen_in store view c s).committed ≡ Some (commit_seen blocks committed (Some c))
+    pub commit_sees : (committed : Named) → at store s.committed ≡ Some committed
+        → at store (seen_in store view c s).committed ≡ Some (commit_seen blocks committed (Some c))
     commit_sees committed at_commit =
-        rw (shown_head c b found) (moved_same s.committed committed at_commit (rules.head_of store view c) (head_after blocks b) (head_same view c b found is_view))
+        rw (shown_head c b found)
+        (moved_same s.committed committed at_commit (rules.head_of store view c) (head_after blocks b) (head_same view c b found is_view))
 
     -- The lock stays below the certificates that were seen.
     pub lock_below : (locked : Named) (high : ℕ) → at store s.lock ≡ Some locked → locked.view ≤ high → (lock_seen blocks locked (Some c)).view ≤ max high view
@@ -223,7 +228,8 @@ module _ (store : List Block) (blocks : List Named) (tied : IsTied store blocks)
 
   -- ---- parent steps
 
-  pub leads : (steps : ℕ) (d to : Digest) (b a : Named) → at store d ≡ Some b → at store to ≡ Some a → reaches steps store d to ≡ true → (k : ℕ) × Leads blocks k b a
+  pub leads : (steps : ℕ) (d to : Digest) (b a : Named) → at store d ≡ Some b → at store to ≡ Some a → reaches steps store d to ≡ true
+      → (k : ℕ) × Leads blocks k b a
   leads zero d to b a found found_a is = (0, same_named store d to b a found found_a (same_true d to is))
   leads (suc steps) d to b a found found_a is = elim (or_cases (digest_eq d to) _ is) [
     | inl here ↦ (0, same_named store d to b a found found_a (same_true d to here))

@@ -17,7 +17,8 @@ pub record IsOneMore (r : ℕ) (old new : List ℕ) : Type 0 where
   pub one : length new ≡ length old + 1
   pub among : (q : ℕ) → is_among new q ≡ ((r == q) || is_among old q)
 
-not_among : (v : ℕ) (d : Digest) (x : Shown) (prefix : List Shown) (r : ℕ) → is_among (voters v d (x ∷ prefix)) r ≡ false → is_among (voters v d prefix) r ≡ false
+not_among : (v : ℕ) (d : Digest) (x : Shown) (prefix : List Shown) (r : ℕ) → is_among (voters v d (x ∷ prefix)) r ≡ false
+    → is_among (voters v d prefix) r ≡ false
 not_among v d x prefix r none = by (voter_by v d x) (voters v d prefix) none
   where
     by : (o : Option ℕ) (vs : List ℕ) → is_among (with_voter o vs) r ≡ false → is_among vs r ≡ false

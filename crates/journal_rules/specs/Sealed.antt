@@ -18,7 +18,8 @@ pub record Mark : Type 0 where
 -- replica and its view come next. Other bytes are no statement.
 abbrev pub mark_of : List ℕ → Option Mark
 mark_of [] = None
-mark_of (kind ∷ rest) = if nat_le NEW_VIEW kind && nat_le kind VOTE then Some (record { kind = kind; view = from_be_bytes w32 (take 4 (drop 1 rest)) }) else None
+mark_of (kind ∷ rest) =
+    if nat_le NEW_VIEW kind && nat_le kind VOTE then Some (record { kind = kind; view = from_be_bytes w32 (take 4 (drop 1 rest)) }) else None
 
 abbrev pub marks_in : List (List ℕ) → List Mark
 marks_in statements = filter_map mark_of statements

@@ -54,7 +54,8 @@ module _ (plan : Plan) (w : World) where
     | inr not_here ↦ let wrong = rw not_here at all in absurd (cc)
   ]
 
-  pub record_is_done : length w.replicas ≡ plan.setting.n → w.due ≡ due_of plan.setting.n plan.faulty (map (λ r. r.feed.txs) w.replicas) → has_all_due plan w ≡ true
+  pub record_is_done : length w.replicas ≡ plan.setting.n → w.due ≡ due_of plan.setting.n plan.faulty (map (λ r. r.feed.txs) w.replicas)
+      → has_all_due plan w ≡ true
       → is_record_done (record_of plan w) ≡ true
   unfolding has_all_due is_record_done record_of
   record_is_done count due done = rw (sym due) (each_holds 0 plan.setting.n (omega (arith, count)) done)

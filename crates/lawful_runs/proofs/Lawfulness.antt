@@ -95,7 +95,8 @@ read_at run r all = among run.journals r all
     among (j ∷ journals) zero all = All-head (λ (x : Journal). AreReadable x.entries) j journals all
     among (j ∷ journals) (suc k) all = among journals k (All-tail (λ (x : Journal). AreReadable x.entries) j journals all)
 
-pub events_readable : (fits : Check) (gives : Gives) (s : State) (events : List Event) → All (λ (e : Entry). IsReadable e.event) (journal_of fits gives s events) → All IsReadable events
+pub events_readable : (fits : Check) (gives : Gives) (s : State) (events : List Event)
+    → All (λ (e : Entry). IsReadable e.event) (journal_of fits gives s events) → All IsReadable events
 events_readable fits gives s [] all = All-nil IsReadable
 events_readable fits gives s (e ∷ events) all =
     let rest : List Entry = journal_of fits gives (turn_of fits gives s e).state events in
@@ -122,9 +123,11 @@ JournalsAreLawful = (gives : Gives) (by : Scale) (views me capacity : ℕ) (even
 
 abbrev pub JournalsReport : Type 0
 JournalsReport = (gives : Gives) (by : Scale) (views me capacity : ℕ) (events : List Event) → MayCome by views me events
-    → StandsAt by (state_after by.fits gives (opening_state by.setting views me capacity) events) (journal_of by.fits gives (opening_state by.setting views me capacity) events)
+    → StandsAt by (state_after by.fits gives (opening_state by.setting views me capacity) events)
+    (journal_of by.fits gives (opening_state by.setting views me capacity) events)
 
-module _ (journals_lawful : JournalsAreLawful) (journals_show : JournalsReport) (fits : Check) (plan : Plan) (sealers : List Signer) (rules : KeepsRules plan) (made : AreMadeFor plan sealers)
+module _ (journals_lawful : JournalsAreLawful) (journals_show : JournalsReport) (fits : Check) (plan : Plan) (sealers : List Signer)
+    (rules : KeepsRules plan) (made : AreMadeFor plan sealers)
     (lists : (r : ℕ) → r < plan.setting.n → IsArrivalList (txs_of (timed_for plan r))) (readable : IsReadableRun (play_of fits plan sealers)) where
   abbrev world : World
   world = run_for fits plan (start_of plan sealers) (steps_of plan)
@@ -133,7 +136,8 @@ module _ (journals_lawful : JournalsAreLawful) (journals_show : JournalsReport) 
   good = ends_good fits plan sealers (steps_of plan) made
 
   -- an honest replica of the run
-  replica_at : (r : ℕ) → IsHonest (play_of fits plan sealers) r → (x : Replica) × (slice_get world.replicas r ≡ Some x) × IsRun fits plan r (capacity_at sealers r) x
+  replica_at : (r : ℕ) → IsHonest (play_of fits plan sealers) r
+      → (x : Replica) × (slice_get world.replicas r ≡ Some x) × IsRun fits plan r (capacity_at sealers r) x
   unfolding record_of
   replica_at r honest =
       let found = found_at world.replicas r (omega (arith, good.count, honest.below)) in
@@ -141,7 +145,8 @@ module _ (journals_lawful : JournalsAreLawful) (journals_show : JournalsReport) 
 
   journal_is : (r : ℕ) (x : Replica) → slice_get world.replicas r ≡ Some x → journal_in (play_of fits plan sealers) r ≡ x.journal
   unfolding record_of
-  journal_is r x found = ap (λ (o : Option Journal). option_map_or (λ (j : Journal). j.entries) o []) (slice_get-map journal_in_record world.replicas r ∙ ap (option_map journal_in_record) found)
+  journal_is r x found = ap (λ (o : Option Journal). option_map_or (λ (j : Journal). j.entries) o [])
+      (slice_get-map journal_in_record world.replicas r ∙ ap (option_map journal_in_record) found)
 
   arrivals_are : (r : ℕ) (x : Replica) → slice_get world.replicas r ≡ Some x → arrivals_in (play_of fits plan sealers) r ≡ x.feed.txs
   unfolding record_of
@@ -153,10 +158,12 @@ module _ (journals_lawful : JournalsAreLawful) (journals_show : JournalsReport) 
 
   commit_is : (r : ℕ) (x : Replica) → slice_get world.replicas r ≡ Some x → commit_in (play_of fits plan sealers) r ≡ (head_of x).commit
   unfolding record_of
-  commit_is r x found = ap (λ (o : Option Head). option_map_or (λ (h : Head). h.commit) o 0) (slice_get-map head_of world.replicas r ∙ ap (option_map head_of) found)
+  commit_is r x found = ap (λ (o : Option Head). option_map_or (λ (h : Head). h.commit) o 0)
+      (slice_get-map head_of world.replicas r ∙ ap (option_map head_of) found)
 
   -- the list and the events of the replica
-  module _ (r : ℕ) (honest : IsHonest (play_of fits plan sealers) r) (x : Replica) (found : slice_get world.replicas r ≡ Some x) (run : IsRun fits plan r (capacity_at sealers r) x) where
+  module _ (r : ℕ) (honest : IsHonest (play_of fits plan sealers) r) (x : Replica) (found : slice_get world.replicas r ≡ Some x)
+      (run : IsRun fits plan r (capacity_at sealers r) x) where
     list : IsArrivalList x.feed.txs
     list = subst IsArrivalList (sym run.list) (lists x.number run.below)
 
@@ -183,7 +190,8 @@ module _ (journals_lawful : JournalsAreLawful) (journals_show : JournalsReport) 
     stands =
         let start : State = opening_state plan.setting plan.views x.number (capacity_at sealers r) in
         subst (λ (s : State). StandsAt by s x.journal) (sym run.state)
-        (subst (StandsAt by (state_after fits x.gives start run.events)) (sym run.journal) (journals_show x.gives by plan.views x.number (capacity_at sealers r) run.events may))
+        (subst (StandsAt by (state_after fits x.gives start run.events)) (sym run.journal)
+        (journals_show x.gives by plan.views x.number (capacity_at sealers r) run.events may))
 
     lawful : IsLawful by x.journal
     lawful = subst (IsLawful by) (sym run.journal) (journals_lawful x.gives by plan.views x.number (capacity_at sealers r) run.events may)
@@ -192,7 +200,8 @@ module _ (journals_lawful : JournalsAreLawful) (journals_show : JournalsReport) 
     unfolding record_of
     obeys = record {
       journal = subst (IsLawful (scale_of fits (play_of fits plan sealers) r)) (sym (journal_is r x found))
-          (subst (λ (ts : List Tx). IsLawful (record { fits = fits; setting = plan.setting; replica = r; arrivals = ts }) x.journal) (sym (arrivals_are r x found)) lawful);
+          (subst (λ (ts : List Tx). IsLawful (record { fits = fits; setting = plan.setting; replica = r; arrivals = ts }) x.journal)
+          (sym (arrivals_are r x found)) lawful);
       head = commit_is r x found ∙ stands.view ∙ ap (commit_view_of plan.setting) (sym (journal_is r x found));
       list = batches_are r x found ∙ stands.finals ∙ ap (finals_of plan.setting) (sym (journal_is r x found));
     }
@@ -201,7 +210,9 @@ module _ (journals_lawful : JournalsAreLawful) (journals_show : JournalsReport) 
   unfolding record_of
   is_lawful = record {
     valid = rules.setting;
-    few_faulty = (let size : size_of plan.setting.n (is_among plan.faulty) ≤ length plan.faulty = size_among plan.setting.n plan.faulty in omega (arith, size, rules.few_faulty));
+    few_faulty =
+        (let size : size_of plan.setting.n (is_among plan.faulty) ≤ length plan.faulty = size_among plan.setting.n plan.faulty in
+        omega (arith, size, rules.few_faulty));
     distinct = λ r honest. (let x = replica_at r honest in subst AreDistinct (sym (arrivals_are r x.0 x.1)) (list r honest x.0 x.1 x.2).distinct);
     fit = λ r honest. (let x = replica_at r honest in subst (All FitsTx) (sym (arrivals_are r x.0 x.1)) (list r honest x.0 x.1 x.2).each);
     reported = λ r honest. read_at (play_of fits plan sealers) r readable;

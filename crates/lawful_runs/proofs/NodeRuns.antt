@@ -27,13 +27,15 @@ record HasTurned (fits : Check) (me : ℕ) (gives : Gives) (start : State) (befo
 
 module _ (fits : Check) (plan : Plan) (at : ℕ) (honest : is_among plan.faulty at ≡ false) where
   -- one event
-  acted_once : (a : After) (e : Event) → HasTurned fits a.replica.number a.replica.gives a.replica.state a.replica.journal (e ∷ []) (act fits plan at a e).replica
+  acted_once : (a : After) (e : Event)
+      → HasTurned fits a.replica.number a.replica.gives a.replica.state a.replica.journal (e ∷ []) (act fits plan at a e).replica
   unfolding after_event
   acted_once a e = rw honest (record { gives_same = refl; journal = refl; state = refl; number = refl })
 
   -- and then others
   joined : (a : After) (e : Event) (es : List Event)
-      → HasTurned fits (act fits plan at a e).replica.number (act fits plan at a e).replica.gives (act fits plan at a e).replica.state (act fits plan at a e).replica.journal es (acts fits plan at a (e ∷ es)).replica
+      → HasTurned fits (act fits plan at a e).replica.number (act fits plan at a e).replica.gives (act fits plan at a e).replica.state
+      (act fits plan at a e).replica.journal es (acts fits plan at a (e ∷ es)).replica
       → HasTurned fits a.replica.number a.replica.gives a.replica.state a.replica.journal (e ∷ es) (acts fits plan at a (e ∷ es)).replica
   joined a e es rest = record {
     gives_same = rest.gives_same ∙ one.gives_same;
@@ -60,7 +62,8 @@ module _ (fits : Check) (plan : Plan) (at : ℕ) (honest : is_among plan.faulty 
       one : HasTurned fits a.replica.number a.replica.gives a.replica.state before (e ∷ []) next
       one = acted_once a e
 
-  turned_on : (events : List Event) (a : After) → HasTurned fits a.replica.number a.replica.gives a.replica.state a.replica.journal events (acts fits plan at a events).replica
+  turned_on : (events : List Event) (a : After)
+      → HasTurned fits a.replica.number a.replica.gives a.replica.state a.replica.journal events (acts fits plan at a events).replica
   turned_on [] a = record { gives_same = refl; journal = sym (append-nil a.replica.journal); state = refl; number = refl }
   turned_on (e ∷ es) a = joined a e es (turned_on es (act fits plan at a e))
 

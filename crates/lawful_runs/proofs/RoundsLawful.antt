@@ -31,7 +31,8 @@ use Rattle.round_rules.specs.Journals.{events_of}
 use Rattle.round_rules.specs.Ran.{Ran}
 use Rattle.run_verdict.specs.Shown.{IsHonest}
 
-module _ (journals_lawful : JournalsAreLawful) (journals_show : JournalsReport) (fits : Check) (plan : Plan) (gives : ℕ → Gives) (capacity : ℕ) (run : RunRecord) (rules : KeepsRules plan)
+module _ (journals_lawful : JournalsAreLawful) (journals_show : JournalsReport) (fits : Check) (plan : Plan) (gives : ℕ → Gives)
+    (capacity : ℕ) (run : RunRecord) (rules : KeepsRules plan)
     (lists : (r : ℕ) → r < plan.setting.n → IsArrivalList (arrivals_in run r)) (readable : IsReadableRun run) (ran : Ran fits plan gives capacity run) where
   module _ (r : ℕ) (honest : IsHonest run r) where
     abbrev events : List Event
@@ -97,7 +98,8 @@ module _ (journals_lawful : JournalsAreLawful) (journals_show : JournalsReport) 
 
     obeys : Obeys fits run r
     obeys = record {
-      journal = subst (λ s. IsLawful (record { fits = fits; setting = s; replica = r; arrivals = arrivals_in run r }) (journal_in run r)) (sym ran.shape.setting) lawful;
+      journal = subst (λ s. IsLawful (record { fits = fits; setting = s; replica = r; arrivals = arrivals_in run r }) (journal_in run r))
+          (sym ran.shape.setting) lawful;
       head = commit_is ∙ stands.view ∙ ap (λ s. commit_view_of s (journal_in run r)) (sym ran.shape.setting);
       list = batches_are ∙ stands.finals ∙ ap (λ s. finals_of s (journal_in run r)) (sym ran.shape.setting);
     }

@@ -16,7 +16,8 @@ use Rattle.lawful_runs.proofs.SealCounts.{FewAreMade, SameJournals}
 use Rattle.lawful_runs.proofs.NodeRuns.{gives_is, journal_is, number_is, state_is}
 use Rattle.lawful_runs.specs.RoundsSpent.{IsNeverSpentIn, replica_in}
 
-pub never_spent_in : SameJournals → FewAreMade → (fits : Check) (plan : Plan) (gives : ℕ → Gives) (capacity : ℕ) (run : RunRecord) → KeepsRules plan → 5 * plan.views ≤ capacity
+pub never_spent_in : SameJournals → FewAreMade → (fits : Check) (plan : Plan) (gives : ℕ → Gives) (capacity : ℕ) (run : RunRecord)
+    → KeepsRules plan → 5 * plan.views ≤ capacity
     → Ran fits plan gives capacity run → (at : ℕ) → at < plan.setting.n → is_among plan.faulty at ≡ false → IsNeverSpentIn fits plan gives capacity run at
 never_spent_in same few fits plan gives capacity run rules room ran at below honest = record {
   journal = sym (ran.turned at below);

@@ -20,15 +20,18 @@ use Rattle.lawful_runs.proofs.Worlds.{ends_good}
 
 -- the laws on sealers, as the lower crate states them
 abbrev pub SameJournals : Type 0
-SameJournals = (fits : Check) (gives : Gives) (s : Parameters) (views me capacity other : ℕ) (events : List Event) → views < 2 ^ 32 → 5 * views ≤ capacity → 5 * views ≤ other
+SameJournals = (fits : Check) (gives : Gives) (s : Parameters) (views me capacity other : ℕ) (events : List Event) → views < 2 ^ 32
+    → 5 * views ≤ capacity → 5 * views ≤ other
     → journal_of fits gives (opening_state s views me capacity) events ≡ journal_of fits gives (opening_state s views me other) events
 
 abbrev pub FewAreMade : Type 0
 FewAreMade = (fits : Check) (gives : Gives) (s : Parameters) (views me capacity : ℕ) (events : List Event) → views < 2 ^ 32 → 5 * views ≤ capacity
     → (state_after fits gives (opening_state s views me capacity) events).made ≤ 5 * views
 
-pub never_spent : SameJournals → FewAreMade → (fits : Check) (plan : Plan) (sealers : List Signer) (steps at : ℕ) (s : Signer) (r : Replica) → KeepsRules plan → AreMadeFor plan sealers
-    → slice_get sealers at ≡ Some s → s.capacity ≡ capacity_of plan.height → slice_get (run_for fits plan (start_of plan sealers) steps).replicas at ≡ Some r → is_among plan.faulty at ≡ false
+pub never_spent : SameJournals → FewAreMade → (fits : Check) (plan : Plan) (sealers : List Signer) (steps at : ℕ) (s : Signer) (r : Replica)
+    → KeepsRules plan → AreMadeFor plan sealers
+    → slice_get sealers at ≡ Some s → s.capacity ≡ capacity_of plan.height
+    → slice_get (run_for fits plan (start_of plan sealers) steps).replicas at ≡ Some r → is_among plan.faulty at ≡ false
     → IsNeverSpent fits plan s r
 never_spent same few fits plan sealers steps at s r rules made own full found honest =
     let run : IsRun fits plan at s.capacity r = subst (λ (o : Option Signer). IsRun fits plan at (option_map_or (λ x. x.capacity) o 0) r) own

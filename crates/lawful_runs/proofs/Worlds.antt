@@ -51,11 +51,22 @@ record Begins (fits : Check) (plan : Plan) (at capacity : ℕ) (list : List Tx) 
   arrived : r.feed.txs ≡ flat_map arrived_by events ++ (list ++ txs_of r.feed.left)
 
 begins : (fits : Check) (plan : Plan) (at capacity : ℕ) (r : Replica) → IsRun fits plan at capacity r → Begins fits plan at capacity [] r
-begins fits plan at capacity r run = record { number = run.number; below = run.below; list_is = run.list; events = run.events; journal = run.journal; state = run.state; from = run.from; arrived = run.arrived }
+begins fits plan at capacity r run =
+    record {
+      number = run.number;
+      below = run.below;
+      list_is = run.list;
+      events = run.events;
+      journal = run.journal;
+      state = run.state;
+      from = run.from;
+      arrived = run.arrived;
+    }
 
 -- the replica after an event
 module _ (fits : Check) (plan : Plan) (capacity : ℕ → ℕ) where
-  run_on : (at : ℕ) (r : Replica) (queue : List Envelope) (e : Event) → is_among plan.faulty at ≡ false → IsFrom plan.setting.n e → Begins fits plan at (capacity at) (arrived_by e) r
+  run_on : (at : ℕ) (r : Replica) (queue : List Envelope) (e : Event) → is_among plan.faulty at ≡ false → IsFrom plan.setting.n e
+      → Begins fits plan at (capacity at) (arrived_by e) r
       → IsRun fits plan at (capacity at) (after_event fits plan at r queue e).replica
   unfolding after_event
   run_on at r queue e honest from b = rw honest (
@@ -71,7 +82,8 @@ module _ (fits : Check) (plan : Plan) (capacity : ℕ → ℕ) where
         state = ap (λ (s : State). (turn_of fits r.gives s e).state) b.state ∙ sym (state_more fits r.gives start b.events e);
         from = All-append (IsFrom plan.setting.n) b.events (e ∷ []) b.from (All-cons (IsFrom plan.setting.n) e [] from (All-nil (IsFrom plan.setting.n)));
         arrived = b.arrived ∙ sym (append_assoc (flat_map arrived_by b.events) (arrived_by e) (txs_of r.feed.left))
-            ∙ ap (λ (ts : List Tx). ts ++ txs_of r.feed.left) (sym (flat_map-append arrived_by b.events (e ∷ []) ∙ ap (λ (ts : List Tx). flat_map arrived_by b.events ++ ts) (append-nil (arrived_by e))));
+            ∙ ap (λ (ts : List Tx). ts ++ txs_of r.feed.left)
+            (sym (flat_map-append arrived_by b.events (e ∷ []) ∙ ap (λ (ts : List Tx). flat_map arrived_by b.events ++ ts) (append-nil (arrived_by e))));
       })
 
   -- each send is from its sender
@@ -89,9 +101,11 @@ module _ (fits : Check) (plan : Plan) (capacity : ℕ → ℕ) where
         where
           each : (given : List (List ℕ)) → Known_senders (enveloped from s.to given)
           each [] = All-nil (λ (x : Envelope). x.from < plan.setting.n)
-          each (bytes ∷ given) = All-cons (λ (x : Envelope). x.from < plan.setting.n) (record { from = from; to = s.to; bytes = bytes }) (enveloped from s.to given) below (each given)
+          each (bytes ∷ given) = All-cons (λ (x : Envelope). x.from < plan.setting.n) (record { from = from; to = s.to; bytes = bytes })
+              (enveloped from s.to given) below (each given)
 
-  queue_on : (at : ℕ) (r : Replica) (queue : List Envelope) (e : Event) → at < plan.setting.n → Known_senders queue → Known_senders (after_event fits plan at r queue e).queue
+  queue_on : (at : ℕ) (r : Replica) (queue : List Envelope) (e : Event) → at < plan.setting.n → Known_senders queue
+      → Known_senders (after_event fits plan at r queue e).queue
   unfolding after_event sent_all
   queue_on at r queue e below all = sends_on at (way (acted fits plan at r e).replica.links queue) (acted fits plan at r e).reported.sends below all
 
@@ -137,14 +151,17 @@ module _ (fits : Check) (plan : Plan) (capacity : ℕ → ℕ) where
         runs = λ other x at_other honest. elim (set_cases w.replicas at other (after_event fits plan at r w.queue e).replica x at_other) [
           | inl p ↦
               let own : is_among plan.faulty at ≡ false = rw p.0 honest in
-              subst (λ (k : ℕ). IsRun fits plan k (capacity k) x) p.0 (subst (IsRun fits plan at (capacity at)) p.1 (run_on at r w.queue e own from (subst (λ (ts : List Tx). Begins fits plan at (capacity at) ts r) (sym none) (begins fits plan at (capacity at) r (g.runs at r is own)))))
+              subst (λ (k : ℕ). IsRun fits plan k (capacity k) x) p.0
+              (subst (IsRun fits plan at (capacity at)) p.1 (run_on at r w.queue e own from
+              (subst (λ (ts : List Tx). Begins fits plan at (capacity at) ts r) (sym none) (begins fits plan at (capacity at) r (g.runs at r is own)))))
           | inr p ↦ g.runs other x p.1 honest
         ];
         queue = queue_on at r w.queue e (found_below w g at r is) g.queue;
       }
 
   -- the arrivals up to now are taken from what is left
-  taken : (turns at : ℕ) (r : Replica) → IsRun fits plan at (capacity at) r → Begins fits plan at (capacity at) (arrived turns r.feed) (record r { feed = after_giving turns r.feed })
+  taken : (turns at : ℕ) (r : Replica) → IsRun fits plan at (capacity at) r
+      → Begins fits plan at (capacity at) (arrived turns r.feed) (record r { feed = after_giving turns r.feed })
   taken turns at r run = record {
     number = run.number;
     below = run.below;
@@ -154,14 +171,16 @@ module _ (fits : Check) (plan : Plan) (capacity : ℕ → ℕ) where
     state = run.state;
     from = run.from;
     arrived = run.arrived ∙ ap (λ (ts : List Tx). flat_map arrived_by run.events ++ ts)
-        (ap txs_of (sym (take-append-drop (count_by_now turns r.feed.left) r.feed.left)) ∙ map-append (λ (t : TimedTx). t.tx) (take (count_by_now turns r.feed.left) r.feed.left) (drop (count_by_now turns r.feed.left) r.feed.left));
+        (ap txs_of (sym (take-append-drop (count_by_now turns r.feed.left) r.feed.left)) ∙ map-append (λ (t : TimedTx). t.tx)
+        (take (count_by_now turns r.feed.left) r.feed.left) (drop (count_by_now turns r.feed.left) r.feed.left));
   }
 
   given_good : (w : World) (at : ℕ) → Good w → Good (given_at fits plan w at)
   unfolding event_at taken_at arrived_at
   given_good w at g = by (slice_get w.replicas at) refl
     where
-      by : (o : Option Replica) → slice_get w.replicas at ≡ o → Good (reported_arrived fits plan (taken_for w at o) at (option_map_or (λ r. arrived w.turns r.feed) o []))
+      by : (o : Option Replica) → slice_get w.replicas at ≡ o
+          → Good (reported_arrived fits plan (taken_for w at o) at (option_map_or (λ r. arrived w.turns r.feed) o []))
       by None is = g
       by (Some r) is = on (arrived w.turns r.feed) refl
         where
@@ -171,7 +190,8 @@ module _ (fits : Check) (plan : Plan) (capacity : ℕ → ℕ) where
             runs = λ other x at_other honest. elim (set_cases w.replicas at other (record r { feed = after_giving w.turns r.feed }) x at_other) [
               | inl p ↦
                   let own : is_among plan.faulty at ≡ false = rw p.0 honest in
-                  let b : Begins fits plan at (capacity at) (arrived w.turns r.feed) (record r { feed = after_giving w.turns r.feed }) = taken w.turns at r (g.runs at r is own) in
+                  let b : Begins fits plan at (capacity at) (arrived w.turns r.feed) (record r { feed = after_giving w.turns r.feed }) =
+                  taken w.turns at r (g.runs at r is own) in
                   subst (λ (k : ℕ). IsRun fits plan k (capacity k) x) p.0 (subst (IsRun fits plan at (capacity at)) p.1 (record {
                     number = b.number;
                     below = b.below;
@@ -206,7 +226,8 @@ module _ (fits : Check) (plan : Plan) (capacity : ℕ → ℕ) where
     where
       by : (t : Bool) → GoodAfter (if t then ended w else going_on (tick_all fits plan (record w { ticks = w.ticks + 1 })))
       by true = g
-      by false = ticks_good (floor_of plan (record w { ticks = w.ticks + 1 })) (record w { ticks = w.ticks + 1 }) (everyone plan) (record { count = g.count; runs = g.runs; queue = g.queue })
+      by false = ticks_good (floor_of plan (record w { ticks = w.ticks + 1 })) (record w { ticks = w.ticks + 1 }) (everyone plan)
+          (record { count = g.count; runs = g.runs; queue = g.queue })
   next_good w (e ∷ rest) is g =
       let all : Known_senders (e ∷ rest) = subst Known_senders is g.queue in
       event_good (record w { queue = rest; turns = w.turns + 1 })
@@ -221,7 +242,8 @@ module _ (fits : Check) (plan : Plan) (capacity : ℕ → ℕ) where
       goes v g true = g
       goes v g false = next_good v v.queue refl g
 
-      ends : (t : Bool) → Good (give_arrivals fits plan w) → GoodAfter (if t then ended (give_arrivals fits plan w) else advanced fits plan (give_arrivals fits plan w))
+      ends : (t : Bool) → Good (give_arrivals fits plan w)
+          → GoodAfter (if t then ended (give_arrivals fits plan w) else advanced fits plan (give_arrivals fits plan w))
       ends true g = g
       ends false g = goes (give_arrivals fits plan w) g (nat_le plan.turns (give_arrivals fits plan w).turns)
 
@@ -229,7 +251,8 @@ module _ (fits : Check) (plan : Plan) (capacity : ℕ → ℕ) where
   run_good w zero g = g
   run_good w (suc steps) g = by (step fits plan w).goes_on (run_good (step fits plan w).world steps (step_good w g))
     where
-      by : (t : Bool) → Good (run_for fits plan (step fits plan w).world steps) → Good (if t then run_for fits plan (step fits plan w).world steps else (step fits plan w).world)
+      by : (t : Bool) → Good (run_for fits plan (step fits plan w).world steps)
+          → Good (if t then run_for fits plan (step fits plan w).world steps else (step fits plan w).world)
       by true later = later
       by false later = step_good w g
 
@@ -248,14 +271,16 @@ module _ (fits : Check) (plan : Plan) (capacity : ℕ → ℕ) where
     arrived = refl;
   }
 
-fresh_runs : (fits : Check) (plan : Plan) (sealers : List Signer) (place at : ℕ) (r : Replica) → All (λ s. s.replica < plan.setting.n) sealers → HaveMadeNothing sealers
+fresh_runs : (fits : Check) (plan : Plan) (sealers : List Signer) (place at : ℕ) (r : Replica)
+    → All (λ s. s.replica < plan.setting.n) sealers → HaveMadeNothing sealers
     → ((k : ℕ) (s : Signer) → slice_get sealers k ≡ Some s → s.replica ≡ place + k) → slice_get (map (fresh_replica plan) sealers) at ≡ Some r
     → IsRun fits plan (place + at) (capacity_at sealers at) r
 fresh_runs fits plan [] place at r below none own found = absurd (cc)
 fresh_runs fits plan (s ∷ sealers) place zero r below none own found =
     let same : fresh_replica plan s ≡ r = cc in
     subst (IsRun fits plan (place + 0) s.capacity) same
-    (fresh_run fits plan (capacity_at (s ∷ sealers)) (place + 0) s (own 0 s refl) (All-head (λ x. x.replica < plan.setting.n) s sealers below) (All-head (λ x. x.made ≡ 0) s sealers none))
+    (fresh_run fits plan (capacity_at (s ∷ sealers)) (place + 0) s (own 0 s refl)
+    (All-head (λ x. x.replica < plan.setting.n) s sealers below) (All-head (λ x. x.made ≡ 0) s sealers none))
 fresh_runs fits plan (s ∷ sealers) place (suc at) r below none own found =
     subst (λ (k : ℕ). IsRun fits plan k (capacity_at sealers at) r) (one_on place at)
     (fresh_runs fits plan sealers (place + 1) at r (All-tail (λ x. x.replica < plan.setting.n) s sealers below) (All-tail (λ x. x.made ≡ 0) s sealers none)

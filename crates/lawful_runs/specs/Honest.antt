@@ -40,4 +40,5 @@ pub record IsNeverSpent (fits : Check) (plan : Plan) (s : Signer) (r : Replica) 
   pub few : r.state.made ≤ 5 * plan.views
   pub events : List Event
   pub state : r.state ≡ state_after fits r.gives (opening_state plan.setting plan.views r.number s.capacity) events
-  pub journal : (capacity : ℕ) → 5 * plan.views ≤ capacity → r.journal ≡ journal_of fits r.gives (opening_state plan.setting plan.views r.number capacity) events
+  pub journal : (capacity : ℕ) → 5 * plan.views ≤ capacity
+      → r.journal ≡ journal_of fits r.gives (opening_state plan.setting plan.views r.number capacity) events

@@ -25,11 +25,14 @@ module _ (fits : Check) (gives : Gives) (opening : State) where
   over events = journal_of fits gives opening events
 
   -- what a lifetime found is what the one before it had logged, and what its start recovered
-  found_is : (lifetime next : Lifetime) → IsPrefixOf (logged lifetime) next.found → over next.found ≡ over (logged lifetime) ++ recovered fits gives opening lifetime next
+  found_is : (lifetime next : Lifetime) → IsPrefixOf (logged lifetime) next.found
+      → over next.found ≡ over (logged lifetime) ++ recovered fits gives opening lifetime next
   found_is lifetime next prefix =
       let log = logged lifetime in
-      let more : drop (length log) next.found ≡ prefix.more = ap (λ (es : List Event). drop (length log) es) prefix.is ∙ drop_at log prefix.more (length log) refl in
-      ap over prefix.is ∙ journal-append fits gives opening log prefix.more ∙ ap (λ (es : List Event). over log ++ journal_of fits gives (state_after fits gives opening log) es) (sym more)
+      let more : drop (length log) next.found ≡ prefix.more = ap (λ (es : List Event). drop (length log) es) prefix.is
+      ∙ drop_at log prefix.more (length log) refl in
+      ap over prefix.is ∙ journal-append fits gives opening log prefix.more
+      ∙ ap (λ (es : List Event). over log ++ journal_of fits gives (state_after fits gives opening log) es) (sym more)
 
   -- whatever the first lifetime found
   all_joined : (lifetime : Lifetime) (lifetimes : List Lifetime) → AreLived fits gives opening lifetime lifetimes → FollowOn lifetime lifetimes
@@ -44,7 +47,8 @@ module _ (fits : Check) (gives : Gives) (opening : State) where
       ∙ sym (found_is lifetime next (left_prefix lifetime next.found follow.0)))
       ∙ all_joined next lifetimes lived.1 follow.1
 
-  pub joined : (lifetime : Lifetime) (lifetimes : List Lifetime) → lifetime.found ≡ [] → AreLived fits gives opening lifetime lifetimes → FollowOn lifetime lifetimes
+  pub joined : (lifetime : Lifetime) (lifetimes : List Lifetime) → lifetime.found ≡ [] → AreLived fits gives opening lifetime lifetimes
+      → FollowOn lifetime lifetimes
       → joined_journal fits gives opening lifetime lifetimes ≡ over (logged (last_lifetime lifetime lifetimes))
   joined lifetime lifetimes none lived follow =
       ap (λ (es : List Event). over es ++ joined_journal fits gives opening lifetime lifetimes) (sym none) ∙ all_joined lifetime lifetimes lived follow

@@ -13,8 +13,10 @@ use Rattle.durable_node.specs.Incarnations.{FollowOn, IsPrefixOf, IsLeft, IsLive
 use Rattle.durable_node.proofs.Lifetimes.{journal-append}
 use Rattle.lifetime_laws.specs.Leaves.{SealsAgree, sealed_over}
 
-pub answers : (fits : Check) (gives : Gives) (opening : State) (lifetime : Lifetime) → IsLived fits gives opening lifetime → journal_of fits gives opening (logged lifetime) ≡ journal_of fits gives opening lifetime.found ++ lifetime.turns
-answers fits gives opening lifetime lived = journal-append fits gives opening lifetime.found (reported_in lifetime) ∙ ap (λ (j : List Entry). journal_of fits gives opening lifetime.found ++ j) (sym lived)
+pub answers : (fits : Check) (gives : Gives) (opening : State) (lifetime : Lifetime) → IsLived fits gives opening lifetime
+    → journal_of fits gives opening (logged lifetime) ≡ journal_of fits gives opening lifetime.found ++ lifetime.turns
+answers fits gives opening lifetime lived = journal-append fits gives opening lifetime.found (reported_in lifetime)
+    ∙ ap (λ (j : List Entry). journal_of fits gives opening lifetime.found ++ j) (sym lived)
 
 -- ---- fronts
 
@@ -29,7 +31,8 @@ pub left_prefix : (lifetime : Lifetime) (events : List Event) → IsLeft lifetim
 left_prefix lifetime events (inl same) = record { more = []; is = same ∙ sym (append-nil (logged lifetime)) }
 left_prefix lifetime events (inr tried) = tried_prefix (logged lifetime) events lifetime.tried tried
 
-each_later : (first : List Event) (lifetime : Lifetime) (lifetimes : List Lifetime) → IsPrefixOf first (logged lifetime) → FollowOn lifetime lifetimes → AllByRecursion (λ later. IsPrefixOf first (logged later)) lifetimes
+each_later : (first : List Event) (lifetime : Lifetime) (lifetimes : List Lifetime) → IsPrefixOf first (logged lifetime)
+    → FollowOn lifetime lifetimes → AllByRecursion (λ later. IsPrefixOf first (logged later)) lifetimes
 each_later first lifetime [] prefix follow = tt
 each_later first lifetime (next ∷ lifetimes) prefix follow =
     let found = left_prefix lifetime next.found follow.0 in
@@ -37,7 +40,8 @@ each_later first lifetime (next ∷ lifetimes) prefix follow =
     let so = joined _ _ _ prefix (joined _ _ _ found goes) in
     (so, each_later first next lifetimes so follow.1)
 
-pub goes_on : (lifetime : Lifetime) (lifetimes : List Lifetime) → FollowOn lifetime lifetimes → AllByRecursion (λ later. IsPrefixOf (logged lifetime) (logged later)) lifetimes
+pub goes_on : (lifetime : Lifetime) (lifetimes : List Lifetime) → FollowOn lifetime lifetimes
+    → AllByRecursion (λ later. IsPrefixOf (logged lifetime) (logged later)) lifetimes
 goes_on lifetime lifetimes follow = each_later (logged lifetime) lifetime lifetimes (record { more = []; is = sym (append-nil (logged lifetime)) }) follow
 
 -- ---- leaves
@@ -48,19 +52,23 @@ in_prefix [] ys k a b first second = absurd cc
 in_prefix (x ∷ xs) ys zero a b first second = cc
 in_prefix (x ∷ xs) ys (suc k) a b first second = in_prefix xs ys k a b first second
 
-agree : (fits : Check) (gives : Gives) (opening : State) (lifetime later : Lifetime) → IsPrefixOf (logged lifetime) (logged later) → SealsAgree (sealed_over fits gives opening lifetime) (sealed_over fits gives opening later)
+agree : (fits : Check) (gives : Gives) (opening : State) (lifetime later : Lifetime) → IsPrefixOf (logged lifetime) (logged later)
+    → SealsAgree (sealed_over fits gives opening lifetime) (sealed_over fits gives opening later)
 agree fits gives opening lifetime later prefix leaf a b first second =
     let following = journal_of fits gives (state_after fits gives opening (logged lifetime)) prefix.more in
     let sealed : sealed_over fits gives opening later ≡ sealed_over fits gives opening lifetime ++ flat_map (λ (t : Entry). t.turned.sealed) following =
     ap (λ (events : List Event). flat_map (λ (t : Entry). t.turned.sealed) (journal_of fits gives opening events)) prefix.is
     ∙ ap (λ (j : List Entry). flat_map (λ (t : Entry). t.turned.sealed) j) (journal-append fits gives opening (logged lifetime) prefix.more)
     ∙ flat_map-append (λ (t : Entry). t.turned.sealed) (journal_of fits gives opening (logged lifetime)) following in
-    in_prefix (sealed_over fits gives opening lifetime) (flat_map (λ (t : Entry). t.turned.sealed) following) leaf a b first (ap (λ (xs : List (List ℕ)). slice_get xs leaf) (sym sealed) ∙ second)
+    in_prefix (sealed_over fits gives opening lifetime) (flat_map (λ (t : Entry). t.turned.sealed) following) leaf a b first
+    (ap (λ (xs : List (List ℕ)). slice_get xs leaf) (sym sealed) ∙ second)
 
-each_agrees : (fits : Check) (gives : Gives) (opening : State) (lifetime : Lifetime) (lifetimes : List Lifetime) → AllByRecursion (λ later. IsPrefixOf (logged lifetime) (logged later)) lifetimes
+each_agrees : (fits : Check) (gives : Gives) (opening : State) (lifetime : Lifetime) (lifetimes : List Lifetime)
+    → AllByRecursion (λ later. IsPrefixOf (logged lifetime) (logged later)) lifetimes
     → AllByRecursion (λ later. SealsAgree (sealed_over fits gives opening lifetime) (sealed_over fits gives opening later)) lifetimes
 each_agrees fits gives opening lifetime [] prefixes = tt
-each_agrees fits gives opening lifetime (later ∷ lifetimes) prefixes = (agree fits gives opening lifetime later prefixes.0, each_agrees fits gives opening lifetime lifetimes prefixes.1)
+each_agrees fits gives opening lifetime (later ∷ lifetimes) prefixes =
+    (agree fits gives opening lifetime later prefixes.0, each_agrees fits gives opening lifetime lifetimes prefixes.1)
 
 pub leaves : (fits : Check) (gives : Gives) (opening : State) (lifetime : Lifetime) (lifetimes : List Lifetime) → FollowOn lifetime lifetimes
     → AllByRecursion (λ later. SealsAgree (sealed_over fits gives opening lifetime) (sealed_over fits gives opening later)) lifetimes

@@ -18,13 +18,15 @@ last_lifetime lifetime (next ∷ lifetimes) = last_lifetime next lifetimes
 -- The turns of a lifetime before it answered any, on events that no earlier lifetime had answered: on the event of a refused
 -- turn, if the crash left its record. The start of the lifetime made them.
 abbrev pub recovered : Check → Gives → State → Lifetime → Lifetime → List Entry
-recovered fits gives opening lifetime next = journal_of fits gives (state_after fits gives opening (logged lifetime)) (drop (length (logged lifetime)) next.found)
+recovered fits gives opening lifetime next =
+    journal_of fits gives (state_after fits gives opening (logged lifetime)) (drop (length (logged lifetime)) next.found)
 
 -- The joined journals of these lifetimes: the answers of each, and between two of them what the start of the second
 -- recovered.
 abbrev pub joined_journal : Check → Gives → State → Lifetime → List Lifetime → List Entry
 joined_journal fits gives opening lifetime [] = lifetime.turns
-joined_journal fits gives opening lifetime (next ∷ lifetimes) = lifetime.turns ++ recovered fits gives opening lifetime next ++ joined_journal fits gives opening next lifetimes
+joined_journal fits gives opening lifetime (next ∷ lifetimes) =
+    lifetime.turns ++ recovered fits gives opening lifetime next ++ joined_journal fits gives opening next lifetimes
 
 -- each of them was led from this opening state, under one check and with the seals of one sealer
 abbrev pub AreLived : Check → Gives → State → Lifetime → List Lifetime → Type 0

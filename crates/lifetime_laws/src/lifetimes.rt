@@ -21,7 +21,8 @@ pub fn no_leaf_seals_twice()
     ensures answers { (fits : Check) (gives : Gives) (opening : State) (lifetime : Lifetime) → IsLived fits gives opening lifetime
         → journal_of fits gives opening (logged lifetime) ≡ journal_of fits gives opening lifetime.found ++ lifetime.turns }
     // Each later lifetime has logged what an earlier one had, and has its statements under the same leaves.
-    ensures goes_on { (lifetime : Lifetime) (lifetimes : List Lifetime) → FollowOn lifetime lifetimes → AllByRecursion (λ later. IsPrefixOf (logged lifetime) (logged later)) lifetimes }
+    ensures goes_on { (lifetime : Lifetime) (lifetimes : List Lifetime) → FollowOn lifetime lifetimes
+        → AllByRecursion (λ later. IsPrefixOf (logged lifetime) (logged later)) lifetimes }
     ensures leaves { (fits : Check) (gives : Gives) (opening : State) (lifetime : Lifetime) (lifetimes : List Lifetime) → FollowOn lifetime lifetimes
         → AllByRecursion (λ later. SealsAgree (sealed_over fits gives opening lifetime) (sealed_over fits gives opening later)) lifetimes }
     // A statement's leaf is its place: the number of statements sealed before it.
@@ -33,7 +34,8 @@ pub fn no_leaf_seals_twice()
     // Whatever setting, views, replica, height and keys each node was started with, they are those of the first.
     ensures one_setting { (led : Led) (more : List Led) → AllFit led more → IsPassedOn led more → AllByRecursion (λ later. later.start ≡ led.start) more }
     // So no leaf has two statements over a log that is passed on.
-    ensures passed_on { (fits : Check) (gives : Gives) (capacity : ℕ) (led : Led) (more : List Led) → AllFit led more → IsPassedOn led more → FollowOn led.lifetime (lifetimes_in more)
+    ensures passed_on { (fits : Check) (gives : Gives) (capacity : ℕ) (led : Led) (more : List Led) → AllFit led more → IsPassedOn led more
+        → FollowOn led.lifetime (lifetimes_in more)
         → AllByRecursion (λ later. SealsAgree (sealed_over fits gives (opening_for capacity led.start) led.lifetime)
         (sealed_over fits gives (opening_for capacity later.start) later.lifetime)) more }
 {

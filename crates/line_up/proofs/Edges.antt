@@ -28,7 +28,9 @@ path_of g members edges =
     (chains (has_edge g) members (λ i j d before within. decided g (get_or members i d) (get_or members j d) (edges i j d before within)) k 0 inside)
 
 -- what holds for the members holds for their line
-pub line_inside : (g : Graph) (members : List ℕ) (k n : ℕ) (line : List ℕ) → All (λ v. v < n) members → line ≡ line_of (has_edge g) (take k members) → All (λ v. v < n) line
+pub line_inside : (g : Graph) (members : List ℕ) (k n : ℕ) (line : List ℕ) → All (λ v. v < n) members
+    → line ≡ line_of (has_edge g) (take k members) → All (λ v. v < n) line
 line_inside g members k n line inside is =
     subst (λ (l : List ℕ). All (λ v. v < n) l) (sym is)
-    (All-permutation (λ v. v < n) (take k members) (line_of (has_edge g) (take k members)) (permutes (has_edge g) (take k members)) (All-take (λ v. v < n) k members inside))
+    (All-permutation (λ v. v < n) (take k members) (line_of (has_edge g) (take k members)) (permutes (has_edge g) (take k members))
+    (All-take (λ v. v < n) k members inside))

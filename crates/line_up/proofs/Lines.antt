@@ -50,7 +50,8 @@ module _ {X : Type 0} (goes_before : X → X → Bool) where
       elim (cases_lt k at) [
         | inl below ↦ elim (cases_lt (k + 1) at) [
           | inl next_below ↦
-              reported _ _ _ _ (get_or-insert_below line at x d k below within) (get_or-insert_below line at x d (k + 1) next_below within) (chain k d (omega arith))
+              reported _ _ _ _ (get_or-insert_below line at x d k below within) (get_or-insert_below line at x d (k + 1) next_below within)
+              (chain k d (omega arith))
           | inr next_at ↦
               let same : at ≡ k + 1 = omega arith in
               reported _ _ _ _ (get_or-insert_below line at x d k below within)

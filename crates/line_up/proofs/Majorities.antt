@@ -30,9 +30,11 @@ majorities s lists batch there k x y here next =
     let line : List Tx = line_of (gives_edge s lists) batch in
     let inside : k + 1 < length line = slice_get_within line (k + 1) y next in
     let decided : AllPairs (IsDecided (gives_edge s lists)) batch =
-    λ i j d before within. given (gives_edge s lists (get_or batch i d) (get_or batch j d)) (gives_edge s lists (get_or batch j d) (get_or batch i d)) (there i j d before within) in
+    λ i j d before within. given (gives_edge s lists (get_or batch i d) (get_or batch j d))
+    (gives_edge s lists (get_or batch j d) (get_or batch i d)) (there i j d before within) in
     let gives : gives_edge s lists x y ≡ true =
     subst (λ (z : Tx). gives_edge s lists x z ≡ true) (get_or_from_slice_get line (k + 1) y x next)
-    (subst (λ (z : Tx). gives_edge s lists z (get_or line (k + 1) x) ≡ true) (get_or_from_slice_get line k x x here) (chains (gives_edge s lists) batch decided k x inside)) in
+    (subst (λ (z : Tx). gives_edge s lists z (get_or line (k + 1) x) ≡ true) (get_or_from_slice_get line k x x here)
+    (chains (gives_edge s lists) batch decided k x inside)) in
     let weights = weighs (threshold_of s) (weight lists x y) (weight lists y x) (is_lt (tx_cmp x y)) gives in
     (gives, weights.0, weights.1)

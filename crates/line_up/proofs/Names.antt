@@ -13,7 +13,8 @@ map_insert {X} {Y} f xs i x =
     ∙ ap (λ (prefix : List Y). prefix ++ f x ∷ map f (drop i xs)) (sym (take-map f i xs))
     ∙ ap (λ (back : List Y). take i (map f xs) ++ f x ∷ back) (sym (drop-map f i xs))
 
-module _ {X Y : Type 0} (goes_before : X → X → Bool) (other : Y → Y → Bool) (name : X → Y) (P : X → Type 0) (same : (x y : X) → P x → P y → goes_before x y ≡ other (name x) (name y)) where
+module _ {X Y : Type 0} (goes_before : X → X → Bool) (other : Y → Y → Bool) (name : X → Y) (P : X → Type 0)
+    (same : (x y : X) → P x → P y → goes_before x y ≡ other (name x) (name y)) where
   place_named : (x : X) → P x → (line : List X) → AllByRecursion P line
       → position_or_len (goes_before x) line ≡ position_or_len (other (name x)) (map name line)
   place_named x is [] all = refl
@@ -25,11 +26,13 @@ module _ {X Y : Type 0} (goes_before : X → X → Bool) (other : Y → Y → Bo
       map_insert name line (position_or_len (goes_before x) line) x
       ∙ ap (λ (at : ℕ). insert (map name line) at (name x)) (place_named x is line (recursion_from_All P line all))
 
-  named_from : (line xs : List X) → All P line → AllByRecursion P xs → map name (put_in_each goes_before line xs) ≡ put_in_each other (map name line) (map name xs)
+  named_from : (line xs : List X) → All P line → AllByRecursion P xs
+      → map name (put_in_each goes_before line xs) ≡ put_in_each other (map name line) (map name xs)
   named_from line [] all each = refl
   named_from line (x ∷ xs) all each =
       named_from (put_in goes_before line x) xs
-      (All-permutation P (x ∷ line) (put_in goes_before line x) (IsPermutation-insert line (position_or_len (goes_before x) line) x) (All-cons P x line each.0 all)) each.1
+      (All-permutation P (x ∷ line) (put_in goes_before line x) (IsPermutation-insert line (position_or_len (goes_before x) line) x)
+      (All-cons P x line each.0 all)) each.1
       ∙ ap (λ (names : List Y). put_in_each other names (map name xs)) (put_in_named line x each.0 all)
 
   pub line_named : (xs : List X) → All P xs → map name (line_of goes_before xs) ≡ line_of other (map name xs)

@@ -26,7 +26,8 @@ seal_fits key number message k = key_fits key (number % 2 ^ key.levels) message 
 
 pub public_long : (key : Key) → IsKey key → length (key_public key) ≡ 56
 unfolding key_public
-public_long key k = length_of_key (kind_of key.levels) key.id (node key.id key.seed key.levels key.levels 1) k.id (length_node key.id key.seed key.levels key.levels 1)
+public_long key k = length_of_key (kind_of key.levels) key.id (node key.id key.seed key.levels key.levels 1) k.id
+    (length_node key.id key.seed key.levels key.levels 1)
 
 pub signature_long : (key : Key) (q : ℕ) (message : List ℕ) → length (key_signature key q message) ≡ 2188 + 32 * key.levels
 unfolding key_signature

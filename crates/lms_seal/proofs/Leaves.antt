@@ -18,13 +18,16 @@ one_leaf_more leaf_at nodes base leaf x within here before =
 
 -- with the key of the leaf that follows, and its node, there is one leaf more
 pub leaf_added : (id seed : List ℕ) (h leaf : ℕ) (keys : List LeafKey) (nodes : List (List ℕ)) (key : LeafKey) (x : List ℕ) → HasLeaves id seed h keys nodes
-    → leaf ≡ length keys → leaf < 2 ^ h → key ≡ record { id = id; leaf = leaf; seed = seed } → x ≡ leaf_hash id (2 ^ h + leaf) (ots_public_of key.id key.leaf key.seed)
+    → leaf ≡ length keys → leaf < 2 ^ h → key ≡ record { id = id; leaf = leaf; seed = seed }
+    → x ≡ leaf_hash id (2 ^ h + leaf) (ots_public_of key.id key.leaf key.seed)
     → HasLeaves id seed h (keys ++ key ∷ []) (set nodes (2 ^ h + leaf) x)
 leaf_added id seed h leaf keys nodes key x t at below own hash =
     let of_leaf : ℕ → LeafKey = λ q. record { id = id; leaf = q; seed = seed } in
     let more : length (keys ++ key ∷ []) ≡ leaf + 1 = length_push keys key ∙ ap (λ (n : ℕ). n + 1) (sym at) in
-    let here : x ≡ leaf_hash id (2 ^ h + leaf) (ots_public_of id leaf seed) = hash ∙ ap (λ (k : LeafKey). leaf_hash id (2 ^ h + leaf) (ots_public_of k.id k.leaf k.seed)) own in
-    let before : (q : ℕ) → q < leaf → get_or nodes (2 ^ h + q) [] ≡ leaf_hash id (2 ^ h + q) (ots_public_of id q seed) = λ q small. t.leaves q (omega (arith, at, small)) in
+    let here : x ≡ leaf_hash id (2 ^ h + leaf) (ots_public_of id leaf seed) =
+    hash ∙ ap (λ (k : LeafKey). leaf_hash id (2 ^ h + leaf) (ots_public_of k.id k.leaf k.seed)) own in
+    let before : (q : ℕ) → q < leaf → get_or nodes (2 ^ h + q) [] ≡ leaf_hash id (2 ^ h + q) (ots_public_of id q seed) =
+    λ q small. t.leaves q (omega (arith, at, small)) in
     let so_far : keys ≡ leaf_keys id seed leaf = t.are_keys ∙ ap (leaf_keys id seed) (sym at) in
     record {
       few = omega (arith, more, below);
@@ -34,5 +37,6 @@ leaf_added id seed h leaf keys nodes key x t at below own hash =
           ∙ sym (map-range_with_len_more of_leaf 0 leaf leaf (omega arith))
           ∙ ap (leaf_keys id seed) (sym more);
       long = length-set nodes (2 ^ h + leaf) x ∙ t.long;
-      leaves = λ q small. one_leaf_more (λ (q : ℕ). leaf_hash id (2 ^ h + q) (ots_public_of id q seed)) nodes (2 ^ h) leaf x (omega (arith, t.long, below)) here before q (omega (arith, more, small));
+      leaves = λ q small. one_leaf_more (λ (q : ℕ). leaf_hash id (2 ^ h + q) (ots_public_of id q seed)) nodes (2 ^ h) leaf x
+          (omega (arith, t.long, below)) here before q (omega (arith, more, small));
     }

@@ -32,19 +32,26 @@ to_kind q random parts = to_parts q random ++ concat parts
 abbrev to_path : ℕ → List ℕ → List (List ℕ) → ℕ → List ℕ
 to_path q random parts kind = to_kind q random parts ++ to_be_bytes w32 kind
 
-leaf_of_laid : (q : ℕ) (random : List ℕ) (parts : List (List ℕ)) (kind : ℕ) (path : List (List ℕ)) → q < 2 ^ 32 → number_at (laid q random parts kind path) 0 ≡ q
-leaf_of_laid q random parts kind path small = number_cut [] (to_be_bytes w32 3 ++ (random ++ (concat parts ++ (to_be_bytes w32 kind ++ concat path)))) q 0 refl small
+leaf_of_laid : (q : ℕ) (random : List ℕ) (parts : List (List ℕ)) (kind : ℕ) (path : List (List ℕ)) → q < 2 ^ 32
+    → number_at (laid q random parts kind path) 0 ≡ q
+leaf_of_laid q random parts kind path small =
+    number_cut [] (to_be_bytes w32 3 ++ (random ++ (concat parts ++ (to_be_bytes w32 kind ++ concat path)))) q 0 refl small
 
 ots_kind_of_laid : (q : ℕ) (random : List ℕ) (parts : List (List ℕ)) (kind : ℕ) (path : List (List ℕ)) → number_at (laid q random parts kind path) 4 ≡ 3
-ots_kind_of_laid q random parts kind path = number_cut (to_be_bytes w32 q) (random ++ (concat parts ++ (to_be_bytes w32 kind ++ concat path))) 3 4 refl (omega arith)
+ots_kind_of_laid q random parts kind path =
+    number_cut (to_be_bytes w32 q) (random ++ (concat parts ++ (to_be_bytes w32 kind ++ concat path))) 3 4 refl (omega arith)
 
-random_of_laid : (q : ℕ) (random : List ℕ) (parts : List (List ℕ)) (kind : ℕ) (path : List (List ℕ)) → length random ≡ 32 → hash_at (laid q random parts kind path) 8 ≡ random
-random_of_laid q random parts kind path l = cut (to_be_bytes w32 q ++ to_be_bytes w32 3) random (concat parts ++ (to_be_bytes w32 kind ++ concat path)) 8 40 refl l
+random_of_laid : (q : ℕ) (random : List ℕ) (parts : List (List ℕ)) (kind : ℕ) (path : List (List ℕ)) → length random ≡ 32
+    → hash_at (laid q random parts kind path) 8 ≡ random
+random_of_laid q random parts kind path l =
+    cut (to_be_bytes w32 q ++ to_be_bytes w32 3) random (concat parts ++ (to_be_bytes w32 kind ++ concat path)) 8 40 refl l
 
-at_kind : (q : ℕ) (random : List ℕ) (parts : List (List ℕ)) (kind : ℕ) (path : List (List ℕ)) → laid q random parts kind path ≡ to_kind q random parts ++ (to_be_bytes w32 kind ++ concat path)
+at_kind : (q : ℕ) (random : List ℕ) (parts : List (List ℕ)) (kind : ℕ) (path : List (List ℕ))
+    → laid q random parts kind path ≡ to_kind q random parts ++ (to_be_bytes w32 kind ++ concat path)
 at_kind q random parts kind path = sym (append_assoc (to_parts q random) (concat parts) (to_be_bytes w32 kind ++ concat path))
 
-at_path : (q : ℕ) (random : List ℕ) (parts : List (List ℕ)) (kind : ℕ) (path : List (List ℕ)) → laid q random parts kind path ≡ to_path q random parts kind ++ (concat path ++ [])
+at_path : (q : ℕ) (random : List ℕ) (parts : List (List ℕ)) (kind : ℕ) (path : List (List ℕ))
+    → laid q random parts kind path ≡ to_path q random parts kind ++ (concat path ++ [])
 at_path q random parts kind path =
     at_kind q random parts kind path
     ∙ sym (append_assoc (to_kind q random parts) (to_be_bytes w32 kind) (concat path))
@@ -53,30 +60,43 @@ at_path q random parts kind path =
 length_to_parts : (q : ℕ) (random : List ℕ) → length random ≡ 32 → length (to_parts q random) ≡ 40
 length_to_parts q random l = omega (arith, l)
 
-length_to_kind : (q : ℕ) (random : List ℕ) (parts : List (List ℕ)) → length random ≡ 32 → AreHashes parts → length parts ≡ 67 → length (to_kind q random parts) ≡ 2184
+length_to_kind : (q : ℕ) (random : List ℕ) (parts : List (List ℕ)) → length random ≡ 32 → AreHashes parts → length parts ≡ 67
+    → length (to_kind q random parts) ≡ 2184
 length_to_kind q random parts l each n = omega (arith, length-append (to_parts q random) (concat parts), length_to_parts q random l, length_joined parts each)
 
-length_to_path : (q : ℕ) (random : List ℕ) (parts : List (List ℕ)) (kind : ℕ) → length random ≡ 32 → AreHashes parts → length parts ≡ 67 → length (to_path q random parts kind) ≡ 2188
-length_to_path q random parts kind l each n = omega (arith, length-append (to_kind q random parts) (to_be_bytes w32 kind), length_to_kind q random parts l each n)
+length_to_path : (q : ℕ) (random : List ℕ) (parts : List (List ℕ)) (kind : ℕ) → length random ≡ 32 → AreHashes parts → length parts ≡ 67
+    → length (to_path q random parts kind) ≡ 2188
+length_to_path q random parts kind l each n =
+    omega (arith, length-append (to_kind q random parts) (to_be_bytes w32 kind), length_to_kind q random parts l each n)
 
-length_of_laid : (q : ℕ) (random : List ℕ) (parts : List (List ℕ)) (kind : ℕ) (path : List (List ℕ)) → length random ≡ 32 → AreHashes parts → length parts ≡ 67 → AreHashes path
+length_of_laid : (q : ℕ) (random : List ℕ) (parts : List (List ℕ)) (kind : ℕ) (path : List (List ℕ)) → length random ≡ 32 → AreHashes parts
+    → length parts ≡ 67 → AreHashes path
     → length (laid q random parts kind path) ≡ 2188 + 32 * length path
 length_of_laid q random parts kind path l each n hashes =
     ap length (at_path q random parts kind path)
-    ∙ omega (arith, length-append (to_path q random parts kind) (concat path ++ []), length-append (concat path) [], length_joined path hashes, length_to_path q random parts kind l each n)
+    ∙ omega (
+      arith,
+      length-append (to_path q random parts kind) (concat path ++ []),
+      length-append (concat path) [],
+      length_joined path hashes,
+      length_to_path q random parts kind l each n,
+    )
 
-kind_of_laid : (q : ℕ) (random : List ℕ) (parts : List (List ℕ)) (kind : ℕ) (path : List (List ℕ)) → length random ≡ 32 → AreHashes parts → length parts ≡ 67 → kind < 2 ^ 32
+kind_of_laid : (q : ℕ) (random : List ℕ) (parts : List (List ℕ)) (kind : ℕ) (path : List (List ℕ)) → length random ≡ 32 → AreHashes parts
+    → length parts ≡ 67 → kind < 2 ^ 32
     → number_at (laid q random parts kind path) 2184 ≡ kind
 kind_of_laid q random parts kind path l each n small =
     ap (λ (b : List ℕ). number_at b 2184) (at_kind q random parts kind path)
     ∙ number_cut (to_kind q random parts) (concat path) kind 2184 (length_to_kind q random parts l each n) small
 
-part_of_laid : (q : ℕ) (random : List ℕ) (parts : List (List ℕ)) (kind : ℕ) (path : List (List ℕ)) (i : ℕ) → length random ≡ 32 → AreHashes parts → i < length parts
+part_of_laid : (q : ℕ) (random : List ℕ) (parts : List (List ℕ)) (kind : ℕ) (path : List (List ℕ)) (i : ℕ) → length random ≡ 32
+    → AreHashes parts → i < length parts
     → part_at (laid q random parts kind path) i ≡ get_or parts i []
 part_of_laid q random parts kind path i l each below =
     part_cut (to_parts q random) (to_be_bytes w32 kind ++ concat path) parts i (40 + 32 * i) each below (omega (arith, length_to_parts q random l))
 
-path_of_laid : (q : ℕ) (random : List ℕ) (parts : List (List ℕ)) (kind : ℕ) (path : List (List ℕ)) (i : ℕ) → length random ≡ 32 → AreHashes parts → length parts ≡ 67 → AreHashes path → i < length path
+path_of_laid : (q : ℕ) (random : List ℕ) (parts : List (List ℕ)) (kind : ℕ) (path : List (List ℕ)) (i : ℕ) → length random ≡ 32
+    → AreHashes parts → length parts ≡ 67 → AreHashes path → i < length path
     → path_at (laid q random parts kind path) i ≡ get_or path i []
 path_of_laid q random parts kind path i l each n hashes below =
     ap (λ (b : List ℕ). hash_at b (2188 + 32 * i)) (at_path q random parts kind path)
@@ -160,12 +180,14 @@ parts_read id seed h q message =
     let f = signed_part id q seed (digits_of id q (random_of id q seed) message) in
     parts_same 67 f (part_at (signed id seed h q message)) (λ i below.
     let within : i < length parts = rw (parts_long id seed q message) below in
-    sym (part_of_laid q (random_of id q seed) parts (kind_of h) (parts_of h (path_node id seed h q)) i (random_long id seed q) (parts_are id seed q message) within ∙ each.part_at 67 i f below))
+    sym (part_of_laid q (random_of id q seed) parts (kind_of h) (parts_of h (path_node id seed h q)) i (random_long id seed q)
+    (parts_are id seed q message) within ∙ each.part_at 67 i f below))
 
 path_read : (id seed : List ℕ) (h q : ℕ) (message : List ℕ) (i : ℕ) → i < h → path_at (signed id seed h q message) i ≡ path_node id seed h q i
 path_read id seed h q message i below =
     let within : i < length (parts_of h (path_node id seed h q)) = rw (path_long id seed h q) below in
-    path_of_laid q (random_of id q seed) (parts_in id seed q message) (kind_of h) (parts_of h (path_node id seed h q)) i (random_long id seed q) (parts_are id seed q message) (parts_long id seed q message) (path_are id seed h q) within
+    path_of_laid q (random_of id q seed) (parts_in id seed q message) (kind_of h) (parts_of h (path_node id seed h q)) i
+    (random_long id seed q) (parts_are id seed q message) (parts_long id seed q message) (path_are id seed h q) within
     ∙ each.part_at h i (path_node id seed h q) below
 
 -- the candidate for the root is the root
@@ -179,13 +201,16 @@ root_is id seed h q message below small =
     let key = candidate_of id q message random parts in
     let leaf = leaf_hash id (2 ^ h + q) key in
     sym (same_root id s h q (number_at s 0) (2 ^ h) message random (hash_at s 8) key leaf (climbed id s (2 ^ h + q) leaf h) parts (parts_of 67 (part_at s))
-    (sym (leaf_of_laid q random parts (kind_of h) path small)) refl (sym (random_of_laid q random parts (kind_of h) path (random_long id seed q))) (parts_read id seed h q message) refl refl refl)
-    ∙ ap (λ (ends : List (List ℕ)). climbed id s (2 ^ h + q) (leaf_hash id (2 ^ h + q) (key_of id q ends)) h) (ends_meet id q seed (digits_of id q random message))
+    (sym (leaf_of_laid q random parts (kind_of h) path small)) refl
+    (sym (random_of_laid q random parts (kind_of h) path (random_long id seed q))) (parts_read id seed h q message) refl refl refl)
+    ∙ ap (λ (ends : List (List ℕ)). climbed id s (2 ^ h + q) (leaf_hash id (2 ^ h + q) (key_of id q ends)) h)
+    (ends_meet id q seed (digits_of id q random message))
     ∙ rises id seed s h q h (path_read id seed h q message)
     ∙ ap (λ (n : ℕ). node id seed h h n) (root_place h q below)
 
 -- what is signed fits at the height of its tree
-signed_fits_at : (id seed : List ℕ) (h q : ℕ) (message : List ℕ) → length id ≡ 16 → q < 2 ^ h → q < 2 ^ 32 → kind_of h < 2 ^ 32 → fits_at h (public_of id seed h) message (signed id seed h q message) ≡ true
+signed_fits_at : (id seed : List ℕ) (h q : ℕ) (message : List ℕ) → length id ≡ 16 → q < 2 ^ h → q < 2 ^ 32 → kind_of h < 2 ^ 32
+    → fits_at h (public_of id seed h) message (signed id seed h q message) ≡ true
 signed_fits_at id seed h q message l below small fair =
     let s = signed id seed h q message in
     let random = random_of id q seed in
@@ -203,7 +228,8 @@ signed_fits_at id seed h q message l below small fair =
     let tree : number_at s 2184 ≡ kind_of h = kind_of_laid q random parts (kind_of h) path long each many fair in
     let leaf : number_at s 0 ≡ q = leaf_of_laid q random parts (kind_of h) path small in
     let same : root_of (id_of public) h message s ≡ hash_at public 24 =
-    ap (λ (i : List ℕ). root_of i h message s) (id_of_key (kind_of h) id root l) ∙ root_is id seed h q message below small ∙ sym (root_of_key (kind_of h) id root l (length_node id seed h h 1)) in
+    ap (λ (i : List ℕ). root_of i h message s) (id_of_key (kind_of h) id root l) ∙ root_is id seed h q message below small
+    ∙ sym (root_of_key (kind_of h) id root l (length_node id seed h h 1)) in
     and_true _ _
     (and_true _ _
     (and_true _ _
@@ -223,20 +249,25 @@ or_true false b e = e
 or_first : (a b : Bool) → a ≡ true → a || b ≡ true
 or_first a b e = rw e refl
 
-fits_five : (id seed : List ℕ) (q : ℕ) (message : List ℕ) → length id ≡ 16 → q < 2 ^ 5 → fits (public_of id seed 5) message (signature_of id seed 5 q message) ≡ true
+fits_five : (id seed : List ℕ) (q : ℕ) (message : List ℕ) → length id ≡ 16 → q < 2 ^ 5
+    → fits (public_of id seed 5) message (signature_of id seed 5 q message) ≡ true
 unfolding fits
 fits_five id seed q message l below =
     and_true _ _ (eq-eqb _ _ (length_of_key 5 id (node id seed 5 5 1) l (length_node id seed 5 5 1)))
-    (or_first _ _ (ap (λ (s : List ℕ). fits_at 5 (public_of id seed 5) message s) (sym (signature_is id seed 5 q message)) ∙ signed_fits_at id seed 5 q message l below (omega arith) (omega arith)))
+    (or_first _ _ (ap (λ (s : List ℕ). fits_at 5 (public_of id seed 5) message s) (sym (signature_is id seed 5 q message))
+    ∙ signed_fits_at id seed 5 q message l below (omega arith) (omega arith)))
 
-fits_ten : (id seed : List ℕ) (q : ℕ) (message : List ℕ) → length id ≡ 16 → q < 2 ^ 10 → fits (public_of id seed 10) message (signature_of id seed 10 q message) ≡ true
+fits_ten : (id seed : List ℕ) (q : ℕ) (message : List ℕ) → length id ≡ 16 → q < 2 ^ 10
+    → fits (public_of id seed 10) message (signature_of id seed 10 q message) ≡ true
 unfolding fits
 fits_ten id seed q message l below =
     and_true _ _ (eq-eqb _ _ (length_of_key 6 id (node id seed 10 10 1) l (length_node id seed 10 10 1)))
-    (or_true _ _ (ap (λ (s : List ℕ). fits_at 10 (public_of id seed 10) message s) (sym (signature_is id seed 10 q message)) ∙ signed_fits_at id seed 10 q message l below (omega arith) (omega arith)))
+    (or_true _ _ (ap (λ (s : List ℕ). fits_at 10 (public_of id seed 10) message s) (sym (signature_is id seed 10 q message))
+    ∙ signed_fits_at id seed 10 q message l below (omega arith) (omega arith)))
 
 -- what a tree of height 5 or 10 signs fits under its public key
-pub signed_fits : (id seed : List ℕ) (h q : ℕ) (message : List ℕ) → length id ≡ 16 → (h ≡ 5) ⊎ (h ≡ 10) → q < 2 ^ h → fits (public_of id seed h) message (signature_of id seed h q message) ≡ true
+pub signed_fits : (id seed : List ℕ) (h q : ℕ) (message : List ℕ) → length id ≡ 16 → (h ≡ 5) ⊎ (h ≡ 10) → q < 2 ^ h
+    → fits (public_of id seed h) message (signature_of id seed h q message) ≡ true
 signed_fits id seed h q message l height below =
     let P : ℕ → Type 0 = λ n. q < 2 ^ n → fits (public_of id seed n) message (signature_of id seed n q message) ≡ true in
     elim height [

@@ -7,7 +7,8 @@ use crate::tree::{inner_hash, leaves};
 pub(crate) fn join_nodes(id: &[u8; 16], height: u32, nodes: &mut [[u8; 32]])
     requires low { height ≤ 10 }
     requires long { length nodes.old ≡ 2 * 2 ^ height }
-    ensures inners { (r : ℕ) → 1 ≤ r → r < 2 ^ height → slice_index_or nodes.new r [] ≡ inner_hash id.now r (slice_index_or nodes.new (2 * r) []) (slice_index_or nodes.new (2 * r + 1) []) }
+    ensures inners { (r : ℕ) → 1 ≤ r → r < 2 ^ height → slice_index_or nodes.new r []
+        ≡ inner_hash id.now r (slice_index_or nodes.new (2 * r) []) (slice_index_or nodes.new (2 * r + 1) []) }
     ensures leaves { (r : ℕ) → 2 ^ height ≤ r → slice_index_or nodes.new r [] ≡ slice_index_or nodes.old r [] }
 {
     let mut node = leaves(height);

@@ -30,7 +30,8 @@ module _ {A : Type 0} where
   either_prefix false xs ys h p q = p
 
   -- of two prefixes, one of which is the whole list, the longer is the whole list
-  pub longer_whole : (xs ys h : List A) → IsPrefix xs h → IsPrefix ys h → (b : Bool) → nat_lt (length xs) (length ys) ≡ b → (xs ≡ h) ⊎ (ys ≡ h) → (if b then ys else xs) ≡ h
+  pub longer_whole : (xs ys h : List A) → IsPrefix xs h → IsPrefix ys h → (b : Bool) → nat_lt (length xs) (length ys) ≡ b
+      → (xs ≡ h) ⊎ (ys ≡ h) → (if b then ys else xs) ≡ h
   longer_whole xs ys h p q true is (inl x) = absurd (grind (arith, is, prefix_length ys h q, ap length x))
   longer_whole xs ys h p q true is (inr y) = y
   longer_whole xs ys h p q false is (inl x) = x
@@ -47,7 +48,8 @@ module _ {A : Type 0} where
       let rest = prefix_shorter xs ys zs (p.0, cc (p.1)) (q.0, cc (q.1)) (omega arith) in
       (rest.0, cc (heads, rest.1))
 
-  pub shorter_begins : (xs ys h : List A) → IsPrefix xs h → IsPrefix ys h → (b : Bool) → nat_lt (length xs) (length ys) ≡ b → IsPrefix (if b then xs else ys) (if b then ys else xs)
+  pub shorter_begins : (xs ys h : List A) → IsPrefix xs h → IsPrefix ys h → (b : Bool) → nat_lt (length xs) (length ys) ≡ b
+      → IsPrefix (if b then xs else ys) (if b then ys else xs)
   shorter_begins xs ys h p q true is = prefix_shorter xs ys h p q (grind (arith, is))
   shorter_begins xs ys h p q false is = prefix_shorter ys xs h q p (grind (arith, is))
 
@@ -96,7 +98,8 @@ module _ {V : Type 0} (f : V → ℕ) where
 
 module _ {V : Type 0} (f g : V → ℕ) where
   -- where one has the whole sum of g, and f is 0 wherever g is, it has the whole sum of f
-  pub total_alone : (vs : List V) (k : ℕ) (v : V) → get_elem? vs k ≡ some v → ((j : ℕ) (u : V) → get_elem? vs j ≡ some u → g u ≡ 0 → f u ≡ 0) → total g vs ≡ g v → total f vs ≡ f v
+  pub total_alone : (vs : List V) (k : ℕ) (v : V) → get_elem? vs k ≡ some v
+      → ((j : ℕ) (u : V) → get_elem? vs j ≡ some u → g u ≡ 0 → f u ≡ 0) → total g vs ≡ g v → total f vs ≡ f v
   total_alone [] k v e zero_too all = absurd (some-ne-none v (sym e))
   total_alone (u ∷ vs) zero v e zero_too all =
       let same : u ≡ v = some-injective u v e in
@@ -111,5 +114,7 @@ module _ {V : Type 0} (f g : V → ℕ) where
       omega arith
 
 -- what holds for each view still holds after one has changed
-pub each_set : {V : Type 0} (F : V → Type 0) (vs : List V) (k : ℕ) (w : V) → F w → ((j : ℕ) (u : V) → j ≢ k → get_elem? vs j ≡ some u → F u) → (j : ℕ) (u : V) → get_elem? (set vs k w) j ≡ some u → F u
-each_set {V} F vs k w mine others j u e = ⊎_elim (λ (x : (j ≡ k) × (w ≡ u)). subst F x.1 mine) (λ (x : (j ≢ k) × (get_elem? vs j ≡ some u)). others j u x.0 x.1) (at_set vs k j w u e)
+pub each_set : {V : Type 0} (F : V → Type 0) (vs : List V) (k : ℕ) (w : V) → F w → ((j : ℕ) (u : V) → j ≢ k → get_elem? vs j ≡ some u → F u)
+    → (j : ℕ) (u : V) → get_elem? (set vs k w) j ≡ some u → F u
+each_set {V} F vs k w mine others j u e = ⊎_elim (λ (x : (j ≡ k) × (w ≡ u)). subst F x.1 mine)
+    (λ (x : (j ≢ k) × (get_elem? vs j ≡ some u)). others j u x.0 x.1) (at_set vs k j w u e)

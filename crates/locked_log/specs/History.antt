@@ -73,7 +73,8 @@ module _ {E : Type 0} where
 
 -- One turn: the job ran once, on a list that extends all that the pass had seen. Afterwards the pass has seen the
 -- whole new list, and owns the positions that were added
-pub record IsTurn {E J A : Type 0} (does : J → List E → A → List E → J → Type 0) (old : Known E) (job : J) (answer : A) (new : Known E) (job' : J) : Type 0 where
+pub record IsTurn {E J A : Type 0} (does : J → List E → A → List E → J → Type 0) (old : Known E) (job : J) (answer : A) (new : Known E)
+    (job' : J) : Type 0 where
   pub found : List E
   pub later : IsPrefix old.seen found
   pub grown : IsPrefix found new.seen

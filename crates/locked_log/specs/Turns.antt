@@ -77,17 +77,21 @@ module _ {L E : Type 0} (list : L → List E) where
 
   -- either the lock was free, the whole history was seen and this seat has the value, or nothing changed
   abbrev pub Taken : Step (Option L) → Me (Option L) (View E) → ℕ → Me (Option L) (View E) → Type 0
-  Taken st m found m' = (found ≡ 0 → (x : L) × (m'.1 ≡ (0, Some x) ∷ []) × (m'.0 ≡ view m.0.parts (list x) m.0.reported m.0.own true) × IsPrefix m.0.seen (list x)) × (found ≢ 0 → m' ≡ m)
+  Taken st m found m' =
+      (found ≡ 0 → (x : L) × (m'.1 ≡ (0, Some x) ∷ []) × (m'.0 ≡ view m.0.parts (list x) m.0.reported m.0.own true) × IsPrefix m.0.seen (list x))
+      × (found ≢ 0 → m' ≡ m)
 
   -- the value's whole list is the history, and its new positions belong to this seat
   abbrev pub Stored : Step (Option L) → Me (Option L) (View E) → ℕ → Me (Option L) (View E) → Type 0
-  Stored st m found m' = (m'.1 ≡ m.1) × ((x : L) → st.said ≡ some (Some x) → m'.0 ≡ view m.0.parts (list x) m.0.reported (m.0.own ++ span (length m.0.seen) (length (list x) - length m.0.seen)) true)
+  Stored st m found m' = (m'.1 ≡ m.1) × ((x : L) → st.said ≡ some (Some x)
+      → m'.0 ≡ view m.0.parts (list x) m.0.reported (m.0.own ++ span (length m.0.seen) (length (list x) - length m.0.seen)) true)
 
   abbrev pub Released : Step (Option L) → Me (Option L) (View E) → ℕ → Me (Option L) (View E) → Type 0
   Released st m found m' = (m'.1 ≡ []) × (m'.0 ≡ view m.0.parts m.0.seen m.0.reported m.0.own false)
 
   abbrev pub Loaded : Step (Option L) → Me (Option L) (View E) → ℕ → Me (Option L) (View E) → Type 0
-  Loaded st m found m' = (m'.1 ≡ m.1) × (m'.0 ≡ view m.0.parts m'.0.seen m.0.reported m.0.own m.0.holds) × IsPrefix m.0.seen m'.0.seen × (found ≡ length m'.0.seen)
+  Loaded st m found m' = (m'.1 ≡ m.1) × (m'.0 ≡ view m.0.parts m'.0.seen m.0.reported m.0.own m.0.holds) × IsPrefix m.0.seen m'.0.seen
+      × (found ≡ length m'.0.seen)
 
   -- nothing changed, and what the seat had noted is a prefix of what it has seen
   abbrev pub Compared : Step (Option L) → Me (Option L) (View E) → ℕ → Me (Option L) (View E) → Type 0

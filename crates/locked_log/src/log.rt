@@ -145,7 +145,8 @@ impl<L: Grows> LockedLog<L> {
         requires held { (seat.old.me.1 ≡ (0, None) ∷ []) × (seat.old.me.0.holds ≡ true) }
         requires grows { IsPrefix seat.old.me.0.seen (L.list inner) × (before ≡ length seat.old.me.0.seen) }
         ensures own { (seat.new.table_id ≡ seat.old.table_id) × (seat.new.id ≡ seat.old.id) }
-        ensures given { seat.new.me ≡ (view seat.old.me.0.parts (L.list inner) seat.old.me.0.reported (seat.old.me.0.own ++ places_after seat.old.me.0.seen (L.list inner)) false, []) }
+        ensures given { seat.new.me
+            ≡ (view seat.old.me.0.parts (L.list inner) seat.old.me.0.reported (seat.old.me.0.own ++ places_after seat.old.me.0.seen (L.list inner)) false, []) }
     {
         let after = inner.count();
         let value = Some(inner);

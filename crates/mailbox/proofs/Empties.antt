@@ -17,7 +17,8 @@ both_ways xs ys there back =
 pub gone : (p : Receiver) (from : ℕ) (sent : List (List ℕ)) → WasEmpty p → Contains p.heard (news from sent) → IsPrefix sent (of from p.taken)
 gone p from sent empty has = subst (IsPrefix sent) (sym (empty.all from)) (All-contains (IsNewsOf empty.sent) p.heard (news from sent) empty.known has)
 
-pub all_gone : (p : Receiver) (s : Sender) → WasEmpty p → Contains p.heard (news s.from s.sent) → IsPrefix (of s.from p.taken) s.sent → of s.from p.taken ≡ s.sent
+pub all_gone : (p : Receiver) (s : Sender) → WasEmpty p → Contains p.heard (news s.from s.sent) → IsPrefix (of s.from p.taken) s.sent
+    → of s.from p.taken ≡ s.sent
 all_gone p s empty has prefix = both_ways (of s.from p.taken) s.sent prefix (gone p s.from s.sent empty has)
 
 pub not_gone : (p : Receiver) (s : Sender) → IsPrefix (of s.from p.taken) s.sent → of s.from p.taken ≢ s.sent → WasEmpty (heard_more p s) → ⊥

@@ -52,7 +52,8 @@ senders_in-suc name a (suc n) =
     let f : a + 1 + n ≡ a + suc n = omega arith in
     ap (senders_in name a) e ∙ (ap (λ l. sender_in name a ∷ l) r ∙ ap (λ (k : ℕ). sender_in name a ∷ (senders_in name (a + 1) n ++ sender_in name k ∷ [])) f)
 
-pub dealt_more : (name : SegId Global) (n : ℕ) (passes passes' : List Sender) (p : Sender) → passes ≡ senders_in name 0 n → passes' ≡ passes ++ p ∷ [] → p.box.web ≡ name.web → p.box.heap ≡ name.heap → p.from ≡ n → p.sent ≡ [] → passes' ≡ senders_in name 0 (n + 1)
+pub dealt_more : (name : SegId Global) (n : ℕ) (passes passes' : List Sender) (p : Sender) → passes ≡ senders_in name 0 n → passes'
+    ≡ passes ++ p ∷ [] → p.box.web ≡ name.web → p.box.heap ≡ name.heap → p.from ≡ n → p.sent ≡ [] → passes' ≡ senders_in name 0 (n + 1)
 dealt_more name n passes passes' p before pushed web heap from sent =
     let is : p ≡ sender_in name n = λ i. record { box = record { web = web i; heap = heap i }; from = from i; sent = sent i } in
     let e : n ≡ 0 + n = omega arith in
@@ -65,18 +66,24 @@ dealt_count name a (suc n) = ap suc (dealt_count name (a + 1) n)
 pub dealt_at : (name : SegId Global) (a n i : ℕ) → i < n → slice_get (senders_in name a n) i ≡ Some (sender_in name (a + i))
 dealt_at name a zero i lt = absurd (omega arith)
 dealt_at name a (suc n) zero lt = ap (λ (k : ℕ). Some (sender_in name k)) (let e : a ≡ a + 0 = omega arith in e)
-dealt_at name a (suc n) (suc i) lt = dealt_at name (a + 1) n i (omega arith) ∙ ap (λ (k : ℕ). Some (sender_in name k)) (let e : a + 1 + i ≡ a + suc i = omega arith in e)
+dealt_at name a (suc n) (suc i) lt =
+    dealt_at name (a + 1) n i (omega arith) ∙ ap (λ (k : ℕ). Some (sender_in name k)) (let e : a + 1 + i ≡ a + suc i = omega arith in e)
 
-pub dealt_each : (name : SegId Global) (passes : List Sender) (n : ℕ) → passes ≡ senders_in name 0 n → (i : ℕ) → i < n → slice_get passes i ≡ Some (sender_in name i)
-dealt_each name passes n is i lt = ap (λ l. slice_get l i) is ∙ (dealt_at name 0 n i lt ∙ ap (λ (k : ℕ). Some (sender_in name k)) (let e : 0 + i ≡ i = omega arith in e))
+pub dealt_each : (name : SegId Global) (passes : List Sender) (n : ℕ) → passes ≡ senders_in name 0 n → (i : ℕ) → i < n
+    → slice_get passes i ≡ Some (sender_in name i)
+dealt_each name passes n is i lt =
+    ap (λ l. slice_get l i) is ∙ (dealt_at name 0 n i lt ∙ ap (λ (k : ℕ). Some (sender_in name k)) (let e : 0 + i ≡ i = omega arith in e))
 
-each_set : {V : Type 0} (F : ℕ → V → Type 0) (vs : List V) (k : ℕ) (w : V) → F k w → ((j : ℕ) (u : V) → j ≢ k → get_elem? vs j ≡ some u → F j u) → (j : ℕ) (u : V) → get_elem? (set vs k w) j ≡ some u → F j u
-each_set {V} F vs k w mine others j u e = ⊎_elim (λ (x : (j ≡ k) × (w ≡ u)). subst (λ (y : ℕ × V). F y.0 y.1) (λ i. (sym x.0 i, x.1 i)) mine) (λ (x : (j ≢ k) × (get_elem? vs j ≡ some u)). others j u x.0 x.1) (at_set vs k j w u e)
+each_set : {V : Type 0} (F : ℕ → V → Type 0) (vs : List V) (k : ℕ) (w : V) → F k w
+    → ((j : ℕ) (u : V) → j ≢ k → get_elem? vs j ≡ some u → F j u) → (j : ℕ) (u : V) → get_elem? (set vs k w) j ≡ some u → F j u
+each_set {V} F vs k w mine others j u e = ⊎_elim (λ (x : (j ≡ k) × (w ≡ u)). subst (λ (y : ℕ × V). F y.0 y.1) (λ i. (sym x.0 i, x.1 i)) mine)
+    (λ (x : (j ≢ k) × (get_elem? vs j ≡ some u)). others j u x.0 x.1) (at_set vs k j w u e)
 
 off : false ≡ true → ⊥
 off e = true≢false (sym e)
 
-on_one : (b : Bool) (y : List ℕ) (all prefix back : List (List ℕ)) → all ≡ prefix ++ back → (if b then y ∷ all else all) ≡ (if b then y ∷ prefix else prefix) ++ back
+on_one : (b : Bool) (y : List ℕ) (all prefix back : List (List ℕ)) → all ≡ prefix ++ back
+    → (if b then y ∷ all else all) ≡ (if b then y ∷ prefix else prefix) ++ back
 on_one true y all prefix back e = ap (λ l. y ∷ l) e
 on_one false y all prefix back e = e
 
@@ -96,13 +103,15 @@ of-more x xs items =
     omega (arith, length-append (of x.from xs) (x.bytes ∷ of x.from items))
 
 -- one more of a sender is counted
-pub counts_more : (counts : List ℕ) (x : Envelope) (got : List Envelope) (n : ℕ) → ((k : ℕ) → k < length counts → slice_index counts k ≡ length (of k got)) → x.from < length counts → n ≡ slice_index counts x.from
+pub counts_more : (counts : List ℕ) (x : Envelope) (got : List Envelope) (n : ℕ)
+    → ((k : ℕ) → k < length counts → slice_index counts k ≡ length (of k got)) → x.from < length counts → n ≡ slice_index counts x.from
     → (k : ℕ) → k < length counts → slice_index (slice_set counts x.from (n + 1)) k ≡ length (of k (got ++ x ∷ []))
 counts_more counts x got n right inside is k lt = dite (ℕ_discrete k x.from)
     (λ e. (let c = of-more x got [] in let r = right x.from inside in let s = get_or-set_same counts x.from (n + 1) 0 inside in
     let m : slice_index (slice_set counts x.from (n + 1)) x.from ≡ length (of x.from (got ++ x ∷ [])) = omega arith in
     subst (λ (j : ℕ). slice_index (slice_set counts x.from (n + 1)) j ≡ length (of j (got ++ x ∷ []))) (sym e) m))
-    (λ e. get_or-set_other counts x.from k (n + 1) 0 e ∙ (right k lt ∙ ap length (sym (of-append k got (x ∷ []) ∙ (ap (λ (b : Bool). of k got ++ (if b then x.bytes ∷ [] else [])) (ne_eqb x.from k (λ d. e (sym d))) ∙ append-nil (of k got))))))
+    (λ e. get_or-set_other counts x.from k (n + 1) 0 e ∙ (right k lt ∙ ap length (sym (of-append k got (x ∷ [])
+    ∙ (ap (λ (b : Bool). of k got ++ (if b then x.bytes ∷ [] else [])) (ne_eqb x.from k (λ d. e (sym d))) ∙ append-nil (of k got))))))
 
 pub begins : Delivers [] (receiver 0 [] [] ∷ [])
 begins = record {
@@ -118,7 +127,8 @@ begins = record {
 }
   where
     first : (k : ℕ) (v : Mail) → get_elem? (receiver 0 [] [] ∷ []) k ≡ some v → Fits 0 0 (λ p. 0) (λ p. []) [] k v
-    first zero v e = subst (Fits 0 0 (λ p. 0) (λ p. []) [] 0) (some-injective (receiver 0 [] []) v e) record { sends = λ s. absurd (off s); takes = λ _. (refl, refl, refl); prefix = ([], refl); heard = All-nil _ }
+    first zero v e = subst (Fits 0 0 (λ p. 0) (λ p. []) [] 0) (some-injective (receiver 0 [] []) v e)
+        record { sends = λ s. absurd (off s); takes = λ _. (refl, refl, refl); prefix = ([], refl); heard = All-nil _ }
     first (suc k) v e = absurd (some-ne-none v (sym e))
 
 pub sends : (n pass : ℕ) (v : Mail) (x : Envelope) → v.sends ≡ true → v.from ≡ x.from → length v.sent < 2 ^ 62 → Pushes Delivers n pass v x (Sent v x)
@@ -127,11 +137,13 @@ sends n pass v x may from room items views _ h at =
     let fits = h.each pass v at in
     let mine = fits.sends may in
     let sent : ℕ → List (List ℕ) = λ p. if (x.from == p) then h.sent p ++ x.bytes ∷ [] else h.sent p in
-    let hit : (p : ℕ) → x.from ≡ p → sent p ≡ h.sent p ++ x.bytes ∷ [] = λ p e. ap (λ (b : Bool). if b then h.sent p ++ x.bytes ∷ [] else h.sent p) (eq-eqb x.from p e) in
+    let hit : (p : ℕ) → x.from ≡ p → sent p ≡ h.sent p ++ x.bytes ∷ [] =
+    λ p e. ap (λ (b : Bool). if b then h.sent p ++ x.bytes ∷ [] else h.sent p) (eq-eqb x.from p e) in
     let miss : (p : ℕ) → x.from ≢ p → sent p ≡ h.sent p = λ p e. ap (λ (b : Bool). if b then h.sent p ++ x.bytes ∷ [] else h.sent p) (ne_eqb x.from p e) in
     let was : h.sent x.from ≡ v.sent = ap h.sent (sym from) ∙ sym mine.2 in
     let grows : (p : ℕ) → IsPrefix (h.sent p) (sent p) = λ p. grown (x.from == p) (h.sent p) x.bytes in
-    let still : (hs : List News) → All (IsNewsOf h.sent) hs → All (IsNewsOf sent) hs = All-weaker (IsNewsOf h.sent) (IsNewsOf sent) (λ n is. prefix_trans n.sent (h.sent n.from) (sent n.from) is (grows n.from)) in (
+    let still : (hs : List News) → All (IsNewsOf h.sent) hs → All (IsNewsOf sent) hs =
+    All-weaker (IsNewsOf h.sent) (IsNewsOf sent) (λ n is. prefix_trans n.sent (h.sent n.from) (sent n.from) is (grows n.from)) in (
       w,
       record {
         reader = h.reader;
@@ -139,14 +151,28 @@ sends n pass v x may from room items views _ h at =
         seat = h.seat;
         sent = sent;
         got = h.got;
-        whole = λ p. ap (of p) (sym (append_assoc h.got items (x ∷ []))) ∙ (of-append p (h.got ++ items) (x ∷ []) ∙ (ap (λ l. l ++ of p (x ∷ [])) (h.whole p) ∙ added (x.from == p) (h.sent p) x.bytes));
+        whole = λ p. ap (of p) (sym (append_assoc h.got items (x ∷ [])))
+            ∙ (of-append p (h.got ++ items) (x ∷ []) ∙ (ap (λ l. l ++ of p (x ∷ [])) (h.whole p) ∙ added (x.from == p) (h.sent p) x.bytes));
         fresh = λ p le. miss p (λ e. (let m = mine.1 in omega arith)) ∙ h.fresh p le;
         short = λ p. dite (ℕ_discrete x.from p)
-            (λ e. (let l : length (sent p) ≡ length (v.sent ++ x.bytes ∷ []) = ap length (hit p e ∙ ap (λ l. l ++ x.bytes ∷ []) (ap h.sent (sym e) ∙ was)) in omega (arith, length-append v.sent (x.bytes ∷ []))))
+            (λ e. (let l : length (sent p) ≡ length (v.sent ++ x.bytes ∷ []) =
+            ap length (hit p e ∙ ap (λ l. l ++ x.bytes ∷ []) (ap h.sent (sym e) ∙ was)) in omega (arith, length-append v.sent (x.bytes ∷ []))))
             (λ e. subst (λ (l : List (List ℕ)). length l ≤ 2 ^ 62) (sym (miss p e)) (h.short p));
         each = each_set (Fits h.reader h.made h.seat sent h.got) views pass w
-            record { sends = λ _. (mine.0, mine.1, ap (λ l. l ++ x.bytes ∷ []) mine.2 ∙ sym (hit v.from (sym from))); takes = fits.takes; prefix = fits.prefix; heard = still v.heard fits.heard }
-            (λ j u apart e. (let theirs = h.each j u e in record { sends = λ s. (let t = theirs.sends s in (t.0, t.1, t.2 ∙ sym (miss u.from (λ same. apart (sym t.0 ∙ (ap h.seat (sym same ∙ sym from) ∙ mine.0)))))); takes = theirs.takes; prefix = theirs.prefix; heard = still u.heard theirs.heard }));
+            record {
+              sends = λ _. (mine.0, mine.1, ap (λ l. l ++ x.bytes ∷ []) mine.2 ∙ sym (hit v.from (sym from)));
+              takes = fits.takes;
+              prefix = fits.prefix;
+              heard = still v.heard fits.heard;
+            }
+            (λ j u apart e. (let theirs = h.each j u e in
+            record {
+              sends = λ s. (let t = theirs.sends s in
+                  (t.0, t.1, t.2 ∙ sym (miss u.from (λ same. apart (sym t.0 ∙ (ap h.seat (sym same ∙ sym from) ∙ mine.0))))));
+              takes = theirs.takes;
+              prefix = theirs.prefix;
+              heard = still u.heard theirs.heard;
+            }));
       },
       refl,
     )
@@ -173,9 +199,20 @@ gets pass v may x items views h at =
         short = h.short;
         each = each_set (Fits h.reader h.made h.seat h.sent got) views pass w
             record { sends = fits.sends; takes = λ _. (mine.0, same, mine.2); prefix = ([], append-nil (v.got ++ x ∷ []) ∙ same); heard = fits.heard }
-            (λ j u apart e. (let theirs = h.each j u e in record { sends = theirs.sends; takes = λ t. absurd (apart ((theirs.takes t).0 ∙ sym mine.0)); prefix = prefix_trans u.got h.got got theirs.prefix (x ∷ [], refl); heard = theirs.heard }));
+            (λ j u apart e. (let theirs = h.each j u e in
+            record {
+              sends = theirs.sends;
+              takes = λ t. absurd (apart ((theirs.takes t).0 ∙ sym mine.0));
+              prefix = prefix_trans u.got h.got got theirs.prefix (x ∷ [], refl);
+              heard = theirs.heard;
+            }));
       },
-      (refl, subst (λ (m : ℕ). x.from < m) (sym mine.2) below, (let l = ap length (h.whole x.from) in let s = h.short x.from in let c = of-more x h.got [] in let d = ap (λ g. length (of x.from g)) same in omega arith)),
+      (
+        refl,
+        subst (λ (m : ℕ). x.from < m) (sym mine.2) below,
+        (let l = ap length (h.whole x.from) in let s = h.short x.from in let c = of-more x h.got [] in
+            let d = ap (λ g. length (of x.from g)) same in omega arith),
+      ),
     )
   where
     ⊥-of : length (of x.from (h.got ++ x ∷ items)) ≡ 0 → ⊥
@@ -210,8 +247,20 @@ deals pass v may silent items views h at =
     let miss : (p : ℕ) → p < h.made → seat p ≡ h.seat p = λ p lt. ap (λ (b : Bool). if b then length vs else h.seat p) (ne_eqb h.made p (λ e. omega arith)) in
     let F = Fits h.reader (h.made + 1) seat h.sent h.got in
     let old : (j : ℕ) (u : Mail) → get_elem? vs j ≡ some u → F j u
-    = each_set F views pass l record { sends = λ s. absurd (true≢false (sym s ∙ silent)); takes = λ _. (mine.0, mine.1, ap (λ k. k + 1) mine.2); prefix = fits.prefix; heard = fits.heard }
-    (λ j u apart e. (let theirs = h.each j u e in record { sends = λ s. (let t = theirs.sends s in (miss u.from t.1 ∙ t.0, (let b = t.1 in omega arith), t.2)); takes = λ t. absurd (apart ((theirs.takes t).0 ∙ sym mine.0)); prefix = theirs.prefix; heard = theirs.heard })) in
+    = each_set F views pass l
+    record {
+      sends = λ s. absurd (true≢false (sym s ∙ silent));
+      takes = λ _. (mine.0, mine.1, ap (λ k. k + 1) mine.2);
+      prefix = fits.prefix;
+      heard = fits.heard;
+    }
+    (λ j u apart e. (let theirs = h.each j u e in
+    record {
+      sends = λ s. (let t = theirs.sends s in (miss u.from t.1 ∙ t.0, (let b = t.1 in omega arith), t.2));
+      takes = λ t. absurd (apart ((theirs.takes t).0 ∙ sym mine.0));
+      prefix = theirs.prefix;
+      heard = theirs.heard;
+    })) in
     record {
       reader = h.reader;
       made = h.made + 1;
@@ -222,7 +271,13 @@ deals pass v may silent items views h at =
       fresh = λ p le. h.fresh p (omega arith);
       short = h.short;
       each = λ j u e. ⊎_elim (old j u) (λ (x : (j ≡ length vs) × (n ≡ u)). subst (λ (y : ℕ × Mail). F y.0 y.1) (λ i. (sym x.0 i, x.1 i))
-          record { sends = λ _. (hit, (let m = mine.2 in omega arith), sym (h.fresh v.made (let m = mine.2 in omega arith))); takes = λ t. absurd (off t); prefix = (h.got, refl); heard = All-nil _ }) (at_end vs n u j e);
+          record {
+            sends = λ _. (hit, (let m = mine.2 in omega arith), sym (h.fresh v.made (let m = mine.2 in omega arith)));
+            takes = λ t. absurd (off t);
+            prefix = (h.got, refl);
+            heard = All-nil _;
+          })
+          (at_end vs n u j e);
     }
 
 -- the same messages over other passes, each of which fits
@@ -281,7 +336,12 @@ reports pass v may items views h at =
     let mine = (h.each pass v at).sends may in
     let is : IsNewsOf h.sent (news v.from v.sent) = ([], append-nil v.sent ∙ mine.2) in
     joins pass v (tale v.from v.sent) items views h at
-    record { sends = λ s. absurd (off s); takes = λ t. absurd (off t); prefix = (h.got, refl); heard = All-cons (IsNewsOf h.sent) (news v.from v.sent) [] is (All-nil _) }
+    record {
+      sends = λ s. absurd (off s);
+      takes = λ t. absurd (off t);
+      prefix = (h.got, refl);
+      heard = All-cons (IsNewsOf h.sent) (news v.from v.sent) [] is (All-nil _);
+    }
 
 -- and the receiver takes it in
 pub listens : (pass : ℕ) (v : Mail) (other : ℕ) (u : Mail) → Merges Delivers pass v other u (hears v u) (note [])
@@ -289,4 +349,9 @@ listens pass v other u items views h at apart at' =
     let fits = h.each pass v at in
     let was = other_is views pass other (hears v u) u apart at' in
     merges pass other (hears v u) items views h
-    record { sends = fits.sends; takes = fits.takes; prefix = fits.prefix; heard = All-append (IsNewsOf h.sent) v.heard u.heard fits.heard (h.each other u was).heard }
+    record {
+      sends = fits.sends;
+      takes = fits.takes;
+      prefix = fits.prefix;
+      heard = All-append (IsNewsOf h.sent) v.heard u.heard fits.heard (h.each other u was).heard;
+    }

@@ -9,7 +9,13 @@ abbrev pub sender_by : SendInside → Sender
 sender_by p = record { box = record { web = p.pass.web; heap = p.pass.heap }; from = p.from; sent = p.pass.me.view.client.sent }
 
 abbrev pub receiver_by : TakeInside → Receiver
-receiver_by p = record { box = record { web = p.pass.web; heap = p.pass.heap }; senders = vec_len p.counts; taken = p.pass.me.view.client.got; heard = p.pass.me.view.client.heard }
+receiver_by p =
+    record {
+      box = record { web = p.pass.web; heap = p.pass.heap };
+      senders = vec_len p.counts;
+      taken = p.pass.me.view.client.got;
+      heard = p.pass.me.view.client.heard;
+    }
 
 -- it sends under its own number, and has counted what it sent
 pub record IsSendPass (p : SendInside) : Type 0 where

@@ -13,7 +13,8 @@ pub fn what_was_heard_was_taken()
 
 /// So where a sender has sent nothing since, what was received from it is all that it sent.
 pub fn an_empty_mailbox_keeps_nothing_back()
-    ensures { (p : Receiver) (s : Sender) → WasEmpty p → Contains p.heard (news s.from s.sent) → IsPrefix (of s.from p.taken) s.sent → of s.from p.taken ≡ s.sent }
+    ensures { (p : Receiver) (s : Sender) → WasEmpty p → Contains p.heard (news s.from s.sent) → IsPrefix (of s.from p.taken) s.sent
+        → of s.from p.taken ≡ s.sent }
 {}
 
 /// A mailbox is not reported empty while it holds a message that the receiver was informed of: one message is enough.

@@ -19,7 +19,8 @@ ahead_next (p ∷ ps) (q ∷ qs) (suc i) left right =
     ahead_next ps qs i (omega arith) (omega arith) in
     let next : ahead (take (suc (suc i)) (p ∷ ps)) (take (suc (suc i)) (q ∷ qs)) ≡ cond (ltb p q) 1 0 + ahead (take (suc i) ps) (take (suc i) qs) =
     ahead_cons p q (take (suc i) ps) (take (suc i) qs) in
-    let here : ahead (take (suc i) (p ∷ ps)) (take (suc i) (q ∷ qs)) ≡ cond (ltb p q) 1 0 + ahead (take i ps) (take i qs) = ahead_cons p q (take i ps) (take i qs) in
+    let here : ahead (take (suc i) (p ∷ ps)) (take (suc i) (q ∷ qs)) ≡ cond (ltb p q) 1 0 + ahead (take i ps) (take i qs) =
+    ahead_cons p q (take i ps) (take i qs) in
     omega (arith, rest, next, here)
 
 pub bool_point : (b : Bool) → from_bool b ≡ cond b 1 0
@@ -38,7 +39,8 @@ ahead_more ps qs i n point p q left right at_p at_q adds before few =
     let here : ahead (take (suc i) ps) (take (suc i) qs) ≡ ahead (take (i + 1) ps) (take (i + 1) qs) = ap (λ (k : ℕ). ahead (take k ps) (take k qs)) next in
     let is_p : p ≡ get_or ps i 0 = at_p ∙ get_or_default ps i p 0 left in
     let is_q : q ≡ get_or qs i 0 = at_q ∙ get_or_default qs i q 0 right in
-    let is : point ≡ from_bool (ltb (get_or ps i 0) (get_or qs i 0)) = adds ∙ ap (λ (x : ℕ). from_bool (ltb x q)) is_p ∙ ap (λ (x : ℕ). from_bool (ltb (get_or ps i 0) x)) is_q in
+    let is : point ≡ from_bool (ltb (get_or ps i 0) (get_or qs i 0)) =
+    adds ∙ ap (λ (x : ℕ). from_bool (ltb x q)) is_p ∙ ap (λ (x : ℕ). from_bool (ltb (get_or ps i 0) x)) is_q in
     let low : from_bool (ltb (get_or ps i 0) (get_or qs i 0)) ≤ 1 = bool_low (ltb (get_or ps i 0) (get_or qs i 0)) in (
       omega (arith, before, ahead_next ps qs i left right, bool_point (ltb (get_or ps i 0) (get_or qs i 0)), here, is),
       omega (arith, few, low, is),
@@ -53,5 +55,6 @@ ahead_all (p ∷ ps) [] (suc n) past = refl
 ahead_all (p ∷ ps) (q ∷ qs) zero past = absurd (omega (arith, past))
 ahead_all (p ∷ ps) (q ∷ qs) (suc n) past =
     let rest : ahead (take n ps) (take n qs) ≡ ahead ps qs = ahead_all ps qs n (omega (arith, past)) in
-    let here : ahead (take (suc n) (p ∷ ps)) (take (suc n) (q ∷ qs)) ≡ cond (ltb p q) 1 0 + ahead (take n ps) (take n qs) = ahead_cons p q (take n ps) (take n qs) in
+    let here : ahead (take (suc n) (p ∷ ps)) (take (suc n) (q ∷ qs)) ≡ cond (ltb p q) 1 0 + ahead (take n ps) (take n qs) =
+    ahead_cons p q (take n ps) (take n qs) in
     omega (arith, rest, here, ahead_cons p q ps qs)

@@ -59,7 +59,8 @@ edge_at-graph_of s lists vertices u v d from to =
     ∙ get_or-map (edge_between s lists (get_or vertices u d)) vertices v d Missing to
 
 -- the graph that the lists give meets the invariant
-pub IsGraph-graph_of : (s : Parameters) (lists : List (List Tx)) (vertices : List Tx) → IsStrictlySortedBy tx_cmp vertices → length vertices ≤ 2048 → IsGraph (graph_of s lists vertices)
+pub IsGraph-graph_of : (s : Parameters) (lists : List (List Tx)) (vertices : List Tx) → IsStrictlySortedBy tx_cmp vertices
+    → length vertices ≤ 2048 → IsGraph (graph_of s lists vertices)
 IsGraph-graph_of s lists vertices ascending few = record {
   ascending = ascending;
   few = few;
@@ -79,7 +80,8 @@ place_inside vertices u a found =
       | inr past ↦ absurd (cc)
     ]
 
-pub edge_of_places : (s : Parameters) (lists : List (List Tx)) (vertices : List Tx) (u v : ℕ) (a b : Tx) → slice_get vertices u ≡ Some a → slice_get vertices v ≡ Some b
+pub edge_of_places : (s : Parameters) (lists : List (List Tx)) (vertices : List Tx) (u v : ℕ) (a b : Tx) → slice_get vertices u ≡ Some a
+    → slice_get vertices v ≡ Some b
     → edge_at (graph_of s lists vertices) u v ≡ edge_between s lists a b
 edge_of_places s lists vertices u v a b from to =
     edge_at-graph_of s lists vertices u v a (place_inside vertices u a from) (place_inside vertices v b to)

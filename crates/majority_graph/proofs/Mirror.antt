@@ -20,7 +20,8 @@ ranked_opposite threshold u v =
     (not_both_outweigh threshold backward forward (is_lt (tx_cmp v.tx u.tx)) (is_lt (tx_cmp u.tx v.tx)) (one_rises v.tx u.tx)))
 
 mirror_is : (threshold : ℕ) (ranked us : List Ranked) (v : Ranked) (n : ℕ) → n < length ranked → get_or ranked n v ≡ v
-    → map (λ (row : List Edge). opposite_of (get_or row n Missing)) (map (λ (u : Ranked). map (ranked_edge threshold u) ranked) us) ≡ map (ranked_edge threshold v) us
+    → map (λ (row : List Edge). opposite_of (get_or row n Missing)) (map (λ (u : Ranked). map (ranked_edge threshold u) ranked) us)
+    ≡ map (ranked_edge threshold v) us
 mirror_is threshold ranked [] v n inside here = refl
 mirror_is threshold ranked (u ∷ us) v n inside here =
     let one : get_or (map (ranked_edge threshold u) ranked) n Missing ≡ ranked_edge threshold u v =
@@ -28,15 +29,19 @@ mirror_is threshold ranked (u ∷ us) v n inside here =
     rw (one, ranked_opposite threshold u v, mirror_is threshold ranked us v n inside here) refl
 
 -- the entries that mirror known rows
-pub mirrored_are : (threshold : ℕ) (ranked : List Ranked) (rows : List (Vec Edge Global)) (row : List Edge) (v : Ranked) (n : ℕ) → n < length ranked → get_or ranked n v ≡ v → AreRows threshold ranked n rows
-    → row ≡ map (λ (known : List Edge). opposite_of (get_or known n Missing)) (map (λ (known : Vec Edge Global). known.items) rows) → row ≡ map (ranked_edge threshold v) (take n ranked)
+pub mirrored_are : (threshold : ℕ) (ranked : List Ranked) (rows : List (Vec Edge Global)) (row : List Edge) (v : Ranked) (n : ℕ)
+    → n < length ranked → get_or ranked n v ≡ v → AreRows threshold ranked n rows
+    → row ≡ map (λ (known : List Edge). opposite_of (get_or known n Missing)) (map (λ (known : Vec Edge Global). known.items) rows)
+    → row ≡ map (ranked_edge threshold v) (take n ranked)
 mirrored_are threshold ranked rows row v n inside here known is =
     is ∙ ap (map (λ (xs : List Edge). opposite_of (get_or xs n Missing))) known ∙ mirror_is threshold ranked (take n ranked) v n inside here
 
 -- as many rows are known
-pub rows_known : (threshold : ℕ) (ranked : List Ranked) (rows : List (Vec Edge Global)) (n : ℕ) → n ≤ length ranked → AreRows threshold ranked n rows → length rows ≡ n
+pub rows_known : (threshold : ℕ) (ranked : List Ranked) (rows : List (Vec Edge Global)) (n : ℕ) → n ≤ length ranked
+    → AreRows threshold ranked n rows → length rows ≡ n
 rows_known threshold ranked rows n inside known =
-    sym (length-map rows (λ (row : Vec Edge Global). row.items)) ∙ ap length known ∙ length-map (take n ranked) (λ (u : Ranked). map (ranked_edge threshold u) ranked) ∙ length-take-le n ranked inside
+    sym (length-map rows (λ (row : Vec Edge Global). row.items)) ∙ ap length known
+    ∙ length-map (take n ranked) (λ (u : Ranked). map (ranked_edge threshold u) ranked) ∙ length-take-le n ranked inside
 
 -- each of them has an entry for each vertex
 pub rows_long : (threshold : ℕ) (ranked : List Ranked) (rows : List (Vec Edge Global)) (n : ℕ) → n < length ranked → AreRows threshold ranked n rows

@@ -52,12 +52,14 @@ module _ (g : Graph) (u v : ℕ) (edge : Edge) (graph : IsGraph g) (from : u < l
   as_before x y left right one two three four =
       changes_pair.others x y one two ∙ graph.one_way x y left right ∙ ap opposite_of (sym (changes_pair.others y x three four))
 
-  one_way_still : (x y : ℕ) → x < length g.vertices → y < length g.vertices → edge_at (with_pair g u v edge) x y ≡ opposite_of (edge_at (with_pair g u v edge) y x)
+  one_way_still : (x y : ℕ) → x < length g.vertices → y < length g.vertices
+      → edge_at (with_pair g u v edge) x y ≡ opposite_of (edge_at (with_pair g u v edge) y x)
   one_way_still x y left right =
       elim (cases_eq x u) [
         | inl at_u ↦ elim (cases_eq y v) [
           | inl at_v ↦ rw (at_u, at_v, changes_pair.forward, changes_pair.backward) (sym (opposite-opposite edge))
-          | inr other ↦ as_before x y left right (λ _ same. other same) (λ same _. apart (sym at_u ∙ same)) (λ _ same. apart (sym at_u ∙ same)) (λ same _. other same)
+          | inr other ↦ as_before x y left right (λ _ same. other same) (λ same _. apart (sym at_u ∙ same))
+              (λ _ same. apart (sym at_u ∙ same)) (λ same _. other same)
         ]
         | inr not_u ↦ elim (cases_eq x v) [
           | inl at_v ↦ elim (cases_eq y u) [

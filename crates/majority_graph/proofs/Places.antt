@@ -36,12 +36,15 @@ ahead_is_weight [] u v = refl
 ahead_is_weight (xs ∷ lists) u v =
     let rest : ahead (map (place u) lists) (map (place v) lists) ≡ weight lists u v = ahead_is_weight lists u v in
     let one : cond (ltb (place u xs) (place v xs)) 1 0 ≡ cond (ranks_above u v xs) 1 0 = ap (λ (b : Bool). cond b 1 0) (place_before u v xs) in
-    let left : ahead (map (place u) (xs ∷ lists)) (map (place v) (xs ∷ lists)) ≡ cond (ltb (place u xs) (place v xs)) 1 0 + ahead (map (place u) lists) (map (place v) lists) =
+    let left : ahead (map (place u) (xs ∷ lists)) (map (place v) (xs ∷ lists))
+    ≡ cond (ltb (place u xs) (place v xs)) 1 0 + ahead (map (place u) lists) (map (place v) lists) =
     sum_by-cons (λ (p : ℕ × ℕ). cond (ltb p.0 p.1) 1 0) (place u xs, place v xs) (zip (map (place u) lists) (map (place v) lists)) in
-    let right : weight (xs ∷ lists) u v ≡ cond (ranks_above u v xs) 1 0 + weight lists u v = sum_by-cons (λ (x : List Tx). cond (ranks_above u v x) 1 0) xs lists in
+    let right : weight (xs ∷ lists) u v ≡ cond (ranks_above u v xs) 1 0 + weight lists u v =
+    sum_by-cons (λ (x : List Tx). cond (ranks_above u v x) 1 0) xs lists in
     left ∙ ap (λ (n : ℕ). n + ahead (map (place u) lists) (map (place v) lists)) one ∙ ap (λ (n : ℕ). cond (ranks_above u v xs) 1 0 + n) rest ∙ sym right
 
-pub ranked_edge_is : (s : Parameters) (lists : List (List Tx)) (u v : Ranked) → IsRanked lists u → IsRanked lists v → ranked_edge (threshold_of s) u v ≡ edge_between s lists u.tx v.tx
+pub ranked_edge_is : (s : Parameters) (lists : List (List Tx)) (u v : Ranked) → IsRanked lists u → IsRanked lists v
+    → ranked_edge (threshold_of s) u v ≡ edge_between s lists u.tx v.tx
 ranked_edge_is s lists u v ranked_u ranked_v = rw (ranked_u, ranked_v, ahead_is_weight lists u.tx v.tx, ahead_is_weight lists v.tx u.tx) refl
 
 -- all pairs of the transactions looked up
@@ -51,11 +54,13 @@ row_is s lists u [] ranked all = refl
 row_is s lists u (r ∷ rs) ranked all = rw (ranked_edge_is s lists u r ranked all.0, row_is s lists u rs ranked all.1) refl
 
 rows_are : (s : Parameters) (lists : List (List Tx)) (us rs : List Ranked) → AllByRecursion (IsRanked lists) us → AllByRecursion (IsRanked lists) rs
-    → map (λ (u : Ranked). map (ranked_edge (threshold_of s) u) rs) us ≡ map (λ (u : Tx). map (edge_between s lists u) (map (λ (r : Ranked). r.tx) rs)) (map (λ (r : Ranked). r.tx) us)
+    → map (λ (u : Ranked). map (ranked_edge (threshold_of s) u) rs) us
+    ≡ map (λ (u : Tx). map (edge_between s lists u) (map (λ (r : Ranked). r.tx) rs)) (map (λ (r : Ranked). r.tx) us)
 rows_are s lists [] rs all each = refl
 rows_are s lists (u ∷ us) rs all each = rw (row_is s lists u rs all.0 each, rows_are s lists us rs all.1 each) refl
 
-pub table_is : (s : Parameters) (lists : List (List Tx)) (vertices : List Tx) (rs : List Ranked) → All (IsRanked lists) rs → map (λ (r : Ranked). r.tx) rs ≡ vertices
+pub table_is : (s : Parameters) (lists : List (List Tx)) (vertices : List Tx) (rs : List Ranked) → All (IsRanked lists) rs
+    → map (λ (r : Ranked). r.tx) rs ≡ vertices
     → map (λ (u : Ranked). map (ranked_edge (threshold_of s) u) rs) rs ≡ map (λ (u : Tx). map (edge_between s lists u) vertices) vertices
 table_is s lists vertices rs all txs =
     let each : AllByRecursion (IsRanked lists) rs = recursion_from_All (IsRanked lists) rs all in
@@ -66,7 +71,8 @@ pub row_of_columns : (lists : List (List Tx)) (txs : List Tx) (at : ℕ) (t d : 
     → map (λ (column : List ℕ). get_or column at 0) (map (λ (list : List Tx). map (λ (u : Tx). place u list) txs) lists) ≡ map (place t) lists
 row_of_columns [] txs at t d inside here = refl
 row_of_columns (list ∷ lists) txs at t d inside here =
-    let one : get_or (map (λ (u : Tx). place u list) txs) at 0 ≡ place t list = get_or-map (λ (u : Tx). place u list) txs at d 0 inside ∙ ap (λ (u : Tx). place u list) here in
+    let one : get_or (map (λ (u : Tx). place u list) txs) at 0 ≡ place t list = get_or-map (λ (u : Tx). place u list) txs at d 0 inside
+    ∙ ap (λ (u : Tx). place u list) here in
     rw (one, row_of_columns lists txs at t d inside here) refl
 
 -- each list has a place for each transaction
@@ -77,20 +83,24 @@ columns_long lists txs at inside =
     (λ k d within. omega (arith, inside, length-map txs (λ (u : Tx). place u (get_or lists k d))))
 
 -- one more list
-pub columns_more : (lists : List (List Tx)) (txs : List Tx) (at : ℕ) (list : List Tx) (columns : List (Vec ℕ Global)) (column : Vec ℕ Global) → at < length lists → list ≡ get_or lists at list
+pub columns_more : (lists : List (List Tx)) (txs : List Tx) (at : ℕ) (list : List Tx) (columns : List (Vec ℕ Global)) (column : Vec ℕ Global)
+    → at < length lists → list ≡ get_or lists at list
     → column.items ≡ map (λ (t : Tx). place t list) txs
     → map (λ (c : Vec ℕ Global). c.items) columns ≡ map (λ (xs : List Tx). map (λ (t : Tx). place t xs) txs) (take at lists)
     → map (λ (c : Vec ℕ Global). c.items) (columns ++ column ∷ []) ≡ map (λ (xs : List Tx). map (λ (t : Tx). place t xs) txs) (take (at + 1) lists)
 columns_more lists txs at list columns column inside read is before =
     map-append (λ (c : Vec ℕ Global). c.items) columns (column ∷ [])
     ∙ ap (λ (xs : List (List ℕ)). xs ++ column.items ∷ []) before
-    ∙ ap (λ (x : List ℕ). map (λ (xs : List Tx). map (λ (t : Tx). place t xs) txs) (take at lists) ++ x ∷ []) (is ∙ ap (λ (xs : List Tx). map (λ (t : Tx). place t xs) txs) read)
+    ∙ ap (λ (x : List ℕ). map (λ (xs : List Tx). map (λ (t : Tx). place t xs) txs) (take at lists) ++ x ∷ [])
+    (is ∙ ap (λ (xs : List Tx). map (λ (t : Tx). place t xs) txs) read)
     ∙ sym (map_more (λ (xs : List Tx). map (λ (t : Tx). place t xs) txs) lists at list inside)
 
 -- one more transaction
-pub ranked_more : (lists : List (List Tx)) (txs : List Tx) (at : ℕ) (d : Tx) (ranked : List Ranked) (places : Vec ℕ Global) → at < length txs → places.items ≡ map (place (get_or txs at d)) lists
+pub ranked_more : (lists : List (List Tx)) (txs : List Tx) (at : ℕ) (d : Tx) (ranked : List Ranked) (places : Vec ℕ Global)
+    → at < length txs → places.items ≡ map (place (get_or txs at d)) lists
     → map (λ (r : Ranked). r.tx) ranked ≡ take at txs → All (IsRanked lists) ranked
-    → (map (λ (r : Ranked). r.tx) (ranked ++ record { tx = get_or txs at d; places = places } ∷ []) ≡ take (at + 1) txs) × All (IsRanked lists) (ranked ++ record { tx = get_or txs at d; places = places } ∷ [])
+    → (map (λ (r : Ranked). r.tx) (ranked ++ record { tx = get_or txs at d; places = places } ∷ []) ≡ take (at + 1) txs)
+    × All (IsRanked lists) (ranked ++ record { tx = get_or txs at d; places = places } ∷ [])
 ranked_more lists txs at d ranked places inside is before all = (
   map-append (λ (r : Ranked). r.tx) ranked (record { tx = get_or txs at d; places = places } ∷ [])
       ∙ ap (λ (xs : List Tx). xs ++ get_or txs at d ∷ []) before

@@ -29,7 +29,8 @@ items_of columns = map (λ (column : Vec ℕ Global). column.items) columns
 pub column_long : (columns : List (Vec ℕ Global)) (n k : ℕ) (column : Vec ℕ Global) → All (λ (c : List ℕ). length c ≡ n) (items_of columns)
     → k < length columns → column ≡ get_or columns k column → length column.items ≡ n
 column_long columns n k column long inside read =
-    let same : get_or (items_of columns) k [] ≡ column.items = get_or-map (λ (c : Vec ℕ Global). c.items) columns k column [] inside ∙ ap (λ (c : Vec ℕ Global). c.items) (sym read) in
+    let same : get_or (items_of columns) k [] ≡ column.items = get_or-map (λ (c : Vec ℕ Global). c.items) columns k column [] inside
+    ∙ ap (λ (c : Vec ℕ Global). c.items) (sym read) in
     sym (ap length same) ∙ long k [] (omega (arith, inside, length-map columns (λ (c : Vec ℕ Global). c.items)))
 
 -- each transaction has a place in each list
@@ -42,7 +43,8 @@ columns_count rs lists columns are =
     sym (length-map columns (λ (c : Vec ℕ Global). c.items)) ∙ ap length are ∙ length-map-range_with_len (column_of rs) 0 lists
 
 -- one more column
-pub column_pushed : (rs : List Ranked) (list : ℕ) (columns : List (Vec ℕ Global)) (column : Vec ℕ Global) → items_of columns ≡ columns_by_list rs list → column.items ≡ column_of rs list
+pub column_pushed : (rs : List Ranked) (list : ℕ) (columns : List (Vec ℕ Global)) (column : Vec ℕ Global)
+    → items_of columns ≡ columns_by_list rs list → column.items ≡ column_of rs list
     → items_of (columns ++ column ∷ []) ≡ columns_by_list rs (list + 1)
 column_pushed rs list columns column before is =
     map-append (λ (c : Vec ℕ Global). c.items) columns (column ∷ [])
@@ -56,7 +58,8 @@ pub weight_more : (columns : List (Vec ℕ Global)) (k u v : ℕ) (column : Vec 
     → new ≡ columns_ahead (items_of (take (k + 1) columns)) u v
 weight_more columns k u v column old new inside read before is =
     let point : List ℕ → ℕ = λ c. cond (ltb (get_or c u 0) (get_or c v 0)) 1 0 in
-    let grown : items_of (take (k + 1) columns) ≡ items_of (take k columns) ++ (get_or columns k column).items ∷ [] = map_more (λ (c : Vec ℕ Global). c.items) columns k column inside in
+    let grown : items_of (take (k + 1) columns) ≡ items_of (take k columns) ++ (get_or columns k column).items ∷ [] =
+    map_more (λ (c : Vec ℕ Global). c.items) columns k column inside in
     let sum : columns_ahead (items_of (take (k + 1) columns)) u v ≡ columns_ahead (items_of (take k columns)) u v + point (get_or columns k column).items =
     ap (λ (cs : List (List ℕ)). columns_ahead cs u v) grown ∙ sum_by_push point (items_of (take k columns)) (get_or columns k column).items in
     let here : point (get_or columns k column).items ≡ point column.items = ap (λ (c : Vec ℕ Global). point c.items) (sym read) in
@@ -72,21 +75,26 @@ edge_written f edges from at edge inside is before v low below =
     ]
 
 -- counted list by list
-counted : (rs : List Ranked) (u v i : ℕ) (a b : Ranked) → u < length rs → v < length rs → get_or rs u a ≡ a → get_or rs v b ≡ b → i ≤ length a.places.items → i ≤ length b.places.items
+counted : (rs : List Ranked) (u v i : ℕ) (a b : Ranked) → u < length rs → v < length rs → get_or rs u a ≡ a → get_or rs v b ≡ b
+    → i ≤ length a.places.items → i ≤ length b.places.items
     → columns_ahead (columns_by_list rs i) u v ≡ ahead (take i a.places.items) (take i b.places.items)
 counted rs u v zero a b from to is_a is_b left right = refl
 counted rs u v (suc i) a b from to is_a is_b left right =
     let ps : List ℕ = a.places.items in
     let qs : List ℕ = b.places.items in
-    let before : columns_ahead (columns_by_list rs i) u v ≡ ahead (take i ps) (take i qs) = counted rs u v i a b from to is_a is_b (omega arith) (omega arith) in
+    let before : columns_ahead (columns_by_list rs i) u v ≡ ahead (take i ps) (take i qs) =
+    counted rs u v i a b from to is_a is_b (omega arith) (omega arith) in
     let point : List ℕ → ℕ = λ column. cond (ltb (get_or column u 0) (get_or column v 0)) 1 0 in
     let more : columns_ahead (columns_by_list rs (i + 1)) u v ≡ columns_ahead (columns_by_list rs i) u v + point (column_of rs i) =
     sum_by-map-range_with_len_more point (column_of rs) 0 i i (omega arith) in
-    let at_u : get_or (column_of rs i) u 0 ≡ get_or ps i 0 = get_or-map (λ (r : Ranked). get_or r.places.items i 0) rs u a 0 from ∙ ap (λ (r : Ranked). get_or r.places.items i 0) is_a in
-    let at_v : get_or (column_of rs i) v 0 ≡ get_or qs i 0 = get_or-map (λ (r : Ranked). get_or r.places.items i 0) rs v b 0 to ∙ ap (λ (r : Ranked). get_or r.places.items i 0) is_b in
+    let at_u : get_or (column_of rs i) u 0 ≡ get_or ps i 0 = get_or-map (λ (r : Ranked). get_or r.places.items i 0) rs u a 0 from
+    ∙ ap (λ (r : Ranked). get_or r.places.items i 0) is_a in
+    let at_v : get_or (column_of rs i) v 0 ≡ get_or qs i 0 = get_or-map (λ (r : Ranked). get_or r.places.items i 0) rs v b 0 to
+    ∙ ap (λ (r : Ranked). get_or r.places.items i 0) is_b in
     let here : point (column_of rs i) ≡ cond (ltb (get_or ps i 0) (get_or qs i 0)) 1 0 =
     ap (λ (n : ℕ). cond (ltb n (get_or (column_of rs i) v 0)) 1 0) at_u ∙ ap (λ (n : ℕ). cond (ltb (get_or ps i 0) n) 1 0) at_v in
-    let next : ahead (take (suc i) ps) (take (suc i) qs) ≡ ahead (take i ps) (take i qs) + cond (ltb (get_or ps i 0) (get_or qs i 0)) 1 0 = ahead_next ps qs i (omega arith) (omega arith) in
+    let next : ahead (take (suc i) ps) (take (suc i) qs) ≡ ahead (take i ps) (take i qs) + cond (ltb (get_or ps i 0) (get_or qs i 0)) 1 0 =
+    ahead_next ps qs i (omega arith) (omega arith) in
     rw add-one at more ∙ ap (λ (n : ℕ). n + point (column_of rs i)) before ∙ ap (λ (n : ℕ). ahead (take i ps) (take i qs) + n) here ∙ sym next
 
 columns_ahead_is : (rs : List Ranked) (lists u v : ℕ) (a b : Ranked) → u < length rs → v < length rs → get_or rs u a ≡ a → get_or rs v b ≡ b
@@ -125,22 +133,27 @@ orders txs u v a b sorted low inside is_a is_b =
           let back : is_lt (tx_cmp b a) ≡ false = ap (λ (t : Tx). is_lt (tx_cmp t a)) (sym one) ∙ never_itself a in
           (le-ltb u v (omega arith) ∙ sym isnt, sym back)
       | inr apart ↦
-          let less : tx_cmp a b ≡ Less = ap (λ (t : Tx). tx_cmp t b) (sym is_a) ∙ ap (λ (t : Tx). tx_cmp (get_or txs u a) t) (sym is_b) ∙ rises_between txs u v a sorted (omega arith) inside in
+          let less : tx_cmp a b ≡ Less = ap (λ (t : Tx). tx_cmp t b) (sym is_a) ∙ ap (λ (t : Tx). tx_cmp (get_or txs u a) t) (sym is_b)
+          ∙ rises_between txs u v a sorted (omega arith) inside in
           let yes' : is_lt (tx_cmp a b) ≡ true = ap is_lt less in
           (lt-ltb u v (omega arith) ∙ sym yes', sym (never_below a b yes'))
     ]
 
 -- the edge by columns
-pub column_edge_is : (t : ℕ) (rs : List Ranked) (lists u v : ℕ) (a b : Ranked) → IsStrictlySortedBy tx_cmp (map (λ r. r.tx) rs) → All (λ r. length r.places.items ≡ lists) rs
+pub column_edge_is : (t : ℕ) (rs : List Ranked) (lists u v : ℕ) (a b : Ranked) → IsStrictlySortedBy tx_cmp (map (λ r. r.tx) rs)
+    → All (λ r. length r.places.items ≡ lists) rs
     → u ≤ v → v < length rs → get_or rs u a ≡ a → get_or rs v a ≡ b → column_edge t (columns_by_list rs lists) u v ≡ ranked_edge t a b
 column_edge_is t rs lists u v a b sorted even low inside is_a is_b =
     let columns : List (List ℕ) = columns_by_list rs lists in
     let long_a : length a.places.items ≡ lists = ap (λ (r : Ranked). length r.places.items) (sym is_a) ∙ even u a (omega arith) in
     let long_b : length b.places.items ≡ lists = ap (λ (r : Ranked). length r.places.items) (sym is_b) ∙ even v a inside in
     let at_b : get_or rs v b ≡ b = sym (get_or_default rs v a b inside) ∙ is_b in
-    let forward : columns_ahead columns u v ≡ ahead a.places.items b.places.items = columns_ahead_is rs lists u v a b (omega arith) inside is_a at_b long_a long_b in
-    let backward : columns_ahead columns v u ≡ ahead b.places.items a.places.items = columns_ahead_is rs lists v u b a inside (omega arith) at_b is_a long_b long_a in
-    let tx_a : get_or (map (λ (r : Ranked). r.tx) rs) u a.tx ≡ a.tx = get_or-map (λ (r : Ranked). r.tx) rs u a a.tx (omega arith) ∙ ap (λ (r : Ranked). r.tx) is_a in
+    let forward : columns_ahead columns u v ≡ ahead a.places.items b.places.items =
+    columns_ahead_is rs lists u v a b (omega arith) inside is_a at_b long_a long_b in
+    let backward : columns_ahead columns v u ≡ ahead b.places.items a.places.items =
+    columns_ahead_is rs lists v u b a inside (omega arith) at_b is_a long_b long_a in
+    let tx_a : get_or (map (λ (r : Ranked). r.tx) rs) u a.tx ≡ a.tx = get_or-map (λ (r : Ranked). r.tx) rs u a a.tx (omega arith)
+    ∙ ap (λ (r : Ranked). r.tx) is_a in
     let tx_b : get_or (map (λ (r : Ranked). r.tx) rs) v a.tx ≡ b.tx = get_or-map (λ (r : Ranked). r.tx) rs v a a.tx inside ∙ ap (λ (r : Ranked). r.tx) is_b in
     let order = orders (map (λ (r : Ranked). r.tx) rs) u v a.tx b.tx sorted low (omega (arith, inside, length-map rs (λ (r : Ranked). r.tx))) tx_a tx_b in
     let f : ℕ = ahead a.places.items b.places.items in
@@ -165,14 +178,17 @@ row_is t rs rows edges row a n inside here known long each is =
     ext_get_or Missing (drop n edges) (drop n all) (length-drop n edges ∙ ap (λ (k : ℕ). k - n) same ∙ sym (length-drop n all))
     (λ i below.
     let within : n + i < length edges = omega (arith, below, length-drop n edges) in
-    get_or-drop n edges i Missing ∙ each (n + i) (omega arith) within ∙ sym (get_or-map (ranked_edge t a) rs (n + i) a Missing (omega (arith, within, long))) ∙ sym (get_or-drop n all i Missing)) in
+    get_or-drop n edges i Missing ∙ each (n + i) (omega arith) within
+    ∙ sym (get_or-map (ranked_edge t a) rs (n + i) a Missing (omega (arith, within, long))) ∙ sym (get_or-drop n all i Missing)) in
     is ∙ ap (λ (xs : List Edge). xs ++ drop n edges) before ∙ ap (λ (xs : List Edge). take n all ++ xs) after ∙ take-append-drop n all
 
 -- the row of the next vertex
 pub next_row : (t : ℕ) (rs : List Ranked) (lists : ℕ) (rows : List (Vec Edge Global)) (row : Vec Edge Global) (edges : List Edge) (n : ℕ)
-    → IsStrictlySortedBy tx_cmp (map (λ r. r.tx) rs) → All (λ r. length r.places.items ≡ lists) rs → n < length rs → AreRows t rs n rows → length edges ≡ length rs
+    → IsStrictlySortedBy tx_cmp (map (λ r. r.tx) rs) → All (λ r. length r.places.items ≡ lists) rs → n < length rs → AreRows t rs n rows
+    → length edges ≡ length rs
     → ((v : ℕ) → n ≤ v → v < length edges → get_or edges v Missing ≡ column_edge t (columns_by_list rs lists) n v)
-    → row.items ≡ map (λ (known : List Edge). opposite_of (get_or known (length rows) Missing)) (map (λ (known : Vec Edge Global). known.items) rows) ++ drop (length rows) edges
+    → row.items ≡ map (λ (known : List Edge). opposite_of (get_or known (length rows) Missing)) (map (λ (known : Vec Edge Global). known.items) rows)
+    ++ drop (length rows) edges
     → AreRows t rs (n + 1) (rows ++ row ∷ [])
 next_row t [] lists rows row edges n sorted even inside known long each is = absurd (omega (arith, inside))
 next_row t (d ∷ others) lists rows row edges n sorted even inside known long each is =

@@ -13,11 +13,13 @@ abbrev pub table_of : List (Vec Edge Global) → List (List Edge)
 table_of rows = map (λ row. row.items) rows
 
 -- the row that is read at u is that of the table
-pub row_at : (rows : List (Vec Edge Global)) (u : ℕ) (row : Vec Edge Global) → u < length rows → row ≡ get_or rows u row → get_or (table_of rows) u [] ≡ row.items
+pub row_at : (rows : List (Vec Edge Global)) (u : ℕ) (row : Vec Edge Global) → u < length rows → row ≡ get_or rows u row
+    → get_or (table_of rows) u [] ≡ row.items
 row_at rows u row inside read =
     get_or-map (λ (row : Vec Edge Global). row.items) rows u row [] inside ∙ ap (λ (r : Vec Edge Global). r.items) (sym read)
 
-pub row_length : (rows : List (Vec Edge Global)) (n u : ℕ) (row : Vec Edge Global) → All (λ (row : List Edge). length row ≡ n) (table_of rows) → u < length rows → row ≡ get_or rows u row → vec_len row ≡ n
+pub row_length : (rows : List (Vec Edge Global)) (n u : ℕ) (row : Vec Edge Global)
+    → All (λ (row : List Edge). length row ≡ n) (table_of rows) → u < length rows → row ≡ get_or rows u row → vec_len row ≡ n
 row_length rows n u row columns inside read =
     let same : get_or (table_of rows) u [] ≡ row.items = row_at rows u row inside read in
     let within : u < length (table_of rows) = rw length-map inside in
@@ -32,12 +34,14 @@ set_row rows u v row edge inside read =
     ∙ ap (λ (items : List Edge). set (table_of rows) u (set items v edge)) (sym (row_at rows u row inside read))
 
 -- the entry that was written
-pub entry_set : (t : List (List Edge)) (u v : ℕ) (edge : Edge) → u < length t → v < length (get_or t u []) → get_or (get_or (set_at t u v edge) u []) v Missing ≡ edge
+pub entry_set : (t : List (List Edge)) (u v : ℕ) (edge : Edge) → u < length t → v < length (get_or t u [])
+    → get_or (get_or (set_at t u v edge) u []) v Missing ≡ edge
 entry_set t u v edge row column =
     rw (get_or-set_same t u (set (get_or t u []) v edge) [] row) (get_or-set_same (get_or t u []) v edge Missing column)
 
 -- and every other one
-pub entry_kept : (t : List (List Edge)) (u v x y : ℕ) (edge : Edge) → u < length t → (x ≡ u → y ≡ v → ⊥) → get_or (get_or (set_at t u v edge) x []) y Missing ≡ get_or (get_or t x []) y Missing
+pub entry_kept : (t : List (List Edge)) (u v x y : ℕ) (edge : Edge) → u < length t → (x ≡ u → y ≡ v → ⊥)
+    → get_or (get_or (set_at t u v edge) x []) y Missing ≡ get_or (get_or t x []) y Missing
 entry_kept t u v x y edge row apart =
     elim (cases_eq x u) [
       | inl same ↦
@@ -46,22 +50,26 @@ entry_kept t u v x y edge row apart =
       | inr other ↦ rw (get_or-set_other t u x (set (get_or t u []) v edge) [] other) refl
     ]
 
-pub columns_kept : (t : List (List Edge)) (u v n : ℕ) (edge : Edge) → u < length t → All (λ (row : List Edge). length row ≡ n) t → All (λ (row : List Edge). length row ≡ n) (set_at t u v edge)
+pub columns_kept : (t : List (List Edge)) (u v n : ℕ) (edge : Edge) → u < length t → All (λ (row : List Edge). length row ≡ n) t
+    → All (λ (row : List Edge). length row ≡ n) (set_at t u v edge)
 columns_kept t u v n edge row columns =
     All-set (λ (row : List Edge). length row ≡ n) t u (set (get_or t u []) v edge)
     (length-set (get_or t u []) v edge ∙ All-get_or (λ (row : List Edge). length row ≡ n) t u [] row columns) columns
 
 -- an item of a list of lists is as long as all are
-pub item_long : {X : Type 0} (rows : List (Vec X Global)) (n k : ℕ) (row : Vec X Global) → All (λ (xs : List X). n < length xs) (map (λ (r : Vec X Global). r.items) rows)
+pub item_long : {X : Type 0} (rows : List (Vec X Global)) (n k : ℕ) (row : Vec X Global)
+    → All (λ (xs : List X). n < length xs) (map (λ (r : Vec X Global). r.items) rows)
     → k < length rows → row ≡ get_or rows k row → n < vec_len row
 item_long {X} rows n k row long inside read =
-    let same : get_or (map (λ (r : Vec X Global). r.items) rows) k [] ≡ row.items = get_or-map (λ (r : Vec X Global). r.items) rows k row [] inside ∙ ap (λ (r : Vec X Global). r.items) (sym read) in
+    let same : get_or (map (λ (r : Vec X Global). r.items) rows) k [] ≡ row.items =
+    get_or-map (λ (r : Vec X Global). r.items) rows k row [] inside ∙ ap (λ (r : Vec X Global). r.items) (sym read) in
     let within : k < length (map (λ (r : Vec X Global). r.items) rows) = omega (arith, inside, length-map rows (λ (r : Vec X Global). r.items)) in
     let it : n < length (get_or (map (λ (r : Vec X Global). r.items) rows) k []) = long k [] within in
     omega (arith, it, ap length same, row.ok.0)
 
 -- the value computed from one more row
-pub read_more : {X Y : Type 0} (f : List X → Y) (rows : List (Vec X Global)) (k : ℕ) (row : Vec X Global) (ys : List Y) (y : Y) → k < length rows → row ≡ get_or rows k row → y ≡ f row.items
+pub read_more : {X Y : Type 0} (f : List X → Y) (rows : List (Vec X Global)) (k : ℕ) (row : Vec X Global) (ys : List Y) (y : Y)
+    → k < length rows → row ≡ get_or rows k row → y ≡ f row.items
     → ys ≡ map f (map (λ (r : Vec X Global). r.items) (take k rows)) → ys ++ y ∷ [] ≡ map f (map (λ (r : Vec X Global). r.items) (take (k + 1) rows))
 read_more {X} {Y} f rows k row ys y inside read is before =
     ap (λ (zs : List Y). zs ++ y ∷ []) before

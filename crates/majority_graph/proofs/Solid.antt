@@ -37,8 +37,10 @@ listed_is_weighed [] u v apart = omega arith
 listed_is_weighed (xs ∷ lists) u v apart =
     let rest : listed lists u ≤ weight lists u v + weight lists v u = listed_is_weighed lists u v apart in
     let held : listed (xs ∷ lists) u ≡ point (holds u xs) + listed lists u = sum_by-cons (λ (x : List Tx). cond (holds u x) 1 0) xs lists in
-    let forward : weight (xs ∷ lists) u v ≡ point (ranks_above u v xs) + weight lists u v = sum_by-cons (λ (x : List Tx). cond (ranks_above u v x) 1 0) xs lists in
-    let backward : weight (xs ∷ lists) v u ≡ point (ranks_above v u xs) + weight lists v u = sum_by-cons (λ (x : List Tx). cond (ranks_above v u x) 1 0) xs lists in
+    let forward : weight (xs ∷ lists) u v ≡ point (ranks_above u v xs) + weight lists u v =
+    sum_by-cons (λ (x : List Tx). cond (ranks_above u v x) 1 0) xs lists in
+    let backward : weight (xs ∷ lists) v u ≡ point (ranks_above v u xs) + weight lists v u =
+    sum_by-cons (λ (x : List Tx). cond (ranks_above v u x) 1 0) xs lists in
     elim (cases_Bool (holds u xs)) [
       | inl is_held ↦
           let one : point (ranks_above u v xs) + point (ranks_above v u xs) ≡ 1 = ranked_if_held u v xs apart is_held in
@@ -51,7 +53,8 @@ listed_is_weighed (xs ∷ lists) u v apart =
 
 -- one of two different transactions is below the other
 one_below : (u v : Tx) → u ≢ v → (is_lt (tx_cmp u v) ≡ true) ⊎ (is_lt (tx_cmp v u) ≡ true)
-one_below u v apart = below_or_above (tx_cmp u v) (tx_cmp v u) (tx_cmp_total.antisymm u v) (λ tied. apart ((tx_eq_decides u v).0 (tx_eq_ties u v ∙ ap is_eq tied)))
+one_below u v apart = below_or_above (tx_cmp u v) (tx_cmp v u) (tx_cmp_total.antisymm u v)
+    (λ tied. apart ((tx_eq_decides u v).0 (tx_eq_ties u v ∙ ap is_eq tied)))
   where
     below_or_above : (o p : Ordering) → o ≡ ordering_reverse p → (o ≡ Equal → ⊥) → (is_lt o ≡ true) ⊎ (is_lt p ≡ true)
     below_or_above o Less e no_tie = inr refl

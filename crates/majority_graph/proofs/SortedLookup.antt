@@ -44,7 +44,8 @@ less_from_is_lt Equal is = absurd (false≢true is)
 less_from_is_lt Greater is = absurd (false≢true is)
 
 -- where the last of the entries before a place is of a lesser transaction, all of them are
-pub all_before : (es : List Entry) (t : Tx) (at : ℕ) (d : Entry) → IsSorted entry_cmp es → 0 < at → at ≤ length es → is_lt (tx_cmp (get_or es (at - 1) d).tx t) ≡ true → AreBefore es t at
+pub all_before : (es : List Entry) (t : Tx) (at : ℕ) (d : Entry) → IsSorted entry_cmp es → 0 < at → at ≤ length es
+    → is_lt (tx_cmp (get_or es (at - 1) d).tx t) ≡ true → AreBefore es t at
 all_before es t at d up some inside is = record {
   inside = inside;
   each = λ k e below.
@@ -56,14 +57,16 @@ pub none_before : (es : List Entry) (t : Tx) → AreBefore es t 0
 none_before es t = record { inside = omega arith; each = λ k d below. absurd (omega (arith, below)) }
 
 -- one more entry is of a lesser transaction
-pub before_more : (es : List Entry) (t : Tx) (at : ℕ) (d : Entry) → AreBefore es t at → at < length es → is_lt (tx_cmp (get_or es at d).tx t) ≡ true → AreBefore es t (at + 1)
+pub before_more : (es : List Entry) (t : Tx) (at : ℕ) (d : Entry) → AreBefore es t at → at < length es
+    → is_lt (tx_cmp (get_or es at d).tx t) ≡ true → AreBefore es t (at + 1)
 before_more es t at d before inside is = record {
   inside = omega arith;
   each = λ k e below. elim (cases_lt k at) [
     | inl less ↦ before.each k e less
     | inr last ↦
         let same : k ≡ at = omega arith in
-        ap (λ (n : ℕ). tx_cmp (get_or es n e).tx t) same ∙ ap (λ (x : Entry). tx_cmp x.tx t) (get_or_default es at e d inside) ∙ less_from_is_lt (tx_cmp (get_or es at d).tx t) is
+        ap (λ (n : ℕ). tx_cmp (get_or es n e).tx t) same ∙ ap (λ (x : Entry). tx_cmp x.tx t) (get_or_default es at e d inside)
+        ∙ less_from_is_lt (tx_cmp (get_or es at d).tx t) is
   ];
 }
 
@@ -85,19 +88,24 @@ not_below : (list : List Tx) (es : List Entry) (t : Tx) (at k : ℕ) (d : Entry)
 not_below list es t at k d are before found =
     let there = not_earlier list es t at k are before found in
     let inside : at < length es = omega (arith, there.1, there.2) in
-    let kept : is_lt (entry_cmp (get_or es there.0 (entry t k)) (get_or es at (entry t k))) ≡ false = far es at there.0 (entry t k) are.sorted there.1 there.2 in
-    let mine : is_lt (entry_cmp (entry t k) (get_or es at (entry t k))) ≡ false = subst (λ (x : Entry). is_lt (entry_cmp x (get_or es at (entry t k))) ≡ false) there.3 kept in
+    let kept : is_lt (entry_cmp (get_or es there.0 (entry t k)) (get_or es at (entry t k))) ≡ false =
+    far es at there.0 (entry t k) are.sorted there.1 there.2 in
+    let mine : is_lt (entry_cmp (entry t k) (get_or es at (entry t k))) ≡ false =
+    subst (λ (x : Entry). is_lt (entry_cmp x (get_or es at (entry t k))) ≡ false) there.3 kept in
     (inside, subst (λ (x : Entry). is_lt (entry_cmp (entry t k) x) ≡ false) (get_or_default es at (entry t k) d inside) mine)
 
 same_from_eq : (x t : Tx) → tx_eq x t ≡ true → x ≡ t
 same_from_eq x t is = (tx_eq_decides x t).0 is
 
 -- the first entry of a transaction has its place
-pub found_place : (list : List Tx) (es : List Entry) (t : Tx) (at : ℕ) (d : Entry) → AreEntries list es → AreBefore es t at → at < length es → tx_eq (get_or es at d).tx t ≡ true
+pub found_place : (list : List Tx) (es : List Entry) (t : Tx) (at : ℕ) (d : Entry) → AreEntries list es → AreBefore es t at → at < length es
+    → tx_eq (get_or es at d).tx t ≡ true
     → (get_or es at d).place ≡ place t list
-found_place list es t at d are before inside is = first (get_or es at d) (are.numbered.each at d inside) is (λ k found. (not_below list es t at k d are before found).1)
+found_place list es t at d are before inside is =
+    first (get_or es at d) (are.numbered.each at d inside) is (λ k found. (not_below list es t at k d are before found).1)
   where
-    first : (e : Entry) → slice_get list e.place ≡ Some e.tx → tx_eq e.tx t ≡ true → ((k : ℕ) → slice_get list k ≡ Some t → is_lt (entry_cmp (entry t k) e) ≡ false) → e.place ≡ place t list
+    first : (e : Entry) → slice_get list e.place ≡ Some e.tx → tx_eq e.tx t ≡ true
+        → ((k : ℕ) → slice_get list k ≡ Some t → is_lt (entry_cmp (entry t k) e) ≡ false) → e.place ≡ place t list
     first e found is not_lower =
         let same : e.tx ≡ t = same_from_eq e.tx t is in
         let within : e.place < length list = slice_get_within list e.place e.tx found in
@@ -127,7 +135,8 @@ no_place list es t at d are before rest apart =
     above e k differ not_less kept Greater is = false≢true (sym kept ∙ less_first (entry t k) e (tx_cmp_total.antisymm t e.tx ∙ ap ordering_reverse is))
 
 -- a sort preserves the entries
-pub entries_sorted : (list : List Tx) (es sorted : List Entry) → AreNumbered list (length list) es → IsPermutation es sorted → IsSorted entry_cmp sorted → AreEntries list sorted
+pub entries_sorted : (list : List Tx) (es sorted : List Entry) → AreNumbered list (length list) es → IsPermutation es sorted
+    → IsSorted entry_cmp sorted → AreEntries list sorted
 entries_sorted list es sorted are moved up = record {
   numbered = record {
     each = All-permutation (λ (e : Entry). slice_get list e.place ≡ Some e.tx) es sorted moved are.each;
@@ -140,7 +149,8 @@ pub none_numbered : (list : List Tx) → AreNumbered list 0 []
 none_numbered list = record { each = All-nil (λ (e : Entry). slice_get list e.place ≡ Some e.tx); all = λ k t below found. absurd (omega (arith, below)) }
 
 -- one more entry
-pub numbered_more : (list : List Tx) (es : List Entry) (count : ℕ) (t : Tx) → AreNumbered list count es → slice_get list count ≡ Some t → AreNumbered list (count + 1) (es ++ entry t count ∷ [])
+pub numbered_more : (list : List Tx) (es : List Entry) (count : ℕ) (t : Tx) → AreNumbered list count es → slice_get list count ≡ Some t
+    → AreNumbered list (count + 1) (es ++ entry t count ∷ [])
 numbered_more list es count t are here = record {
   each = All-push (λ (e : Entry). slice_get list e.place ≡ Some e.tx) es (entry t count) are.each here;
   all = λ k u below found. elim (cases_lt k count) [
@@ -148,6 +158,7 @@ numbered_more list es count t are here = record {
     | inr last ↦
         let same : k ≡ count = omega arith in
         let is : u ≡ t = same_Some u t (sym found ∙ ap (slice_get list) same ∙ here) in
-        subst (λ (e : Entry). Contains (es ++ entry t count ∷ []) e) (sym (ap (λ (x : Tx). entry x k) is ∙ ap (entry t) same)) (Contains-push es (entry t count))
+        subst (λ (e : Entry). Contains (es ++ entry t count ∷ []) e) (sym (ap (λ (x : Tx). entry x k) is ∙ ap (entry t) same))
+        (Contains-push es (entry t count))
   ];
 }

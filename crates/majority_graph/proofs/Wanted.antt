@@ -110,8 +110,10 @@ row_kept ws rows kept grown at row new w r is read more new_is before =
     let left : table_of grown ≡ table_of kept ++ new.items ∷ [] = ap table_of more ∙ map_push f kept new in
     let step : wanted_of (take (at + 1) ws) (table_of (take (at + 1) rows)) ≡ wanted_of (take at ws) (table_of (take at rows)) ++ row.items ∷ [] =
     rw (← take-map f (at + 1) rows, ← take-map f at rows, ← row_at rows at row r read) (wanted_yes ws (table_of rows) at [] w inside is) in
-    let right : map (wanted_of ws) (wanted_of (take (at + 1) ws) (table_of (take (at + 1) rows))) ≡ map (wanted_of ws) (wanted_of (take at ws) (table_of (take at rows))) ++ wanted_of ws row.items ∷ [] =
-    ap (λ (t : List (List Edge)). map (wanted_of ws) t) step ∙ map_push (λ (r : List Edge). wanted_of ws r) (wanted_of (take at ws) (table_of (take at rows))) row.items in
+    let right : map (wanted_of ws) (wanted_of (take (at + 1) ws) (table_of (take (at + 1) rows)))
+    ≡ map (wanted_of ws) (wanted_of (take at ws) (table_of (take at rows))) ++ wanted_of ws row.items ∷ [] =
+    ap (λ (t : List (List Edge)). map (wanted_of ws) t) step
+    ∙ map_push (λ (r : List Edge). wanted_of ws r) (wanted_of (take at ws) (table_of (take at rows))) row.items in
     left ∙ ap (λ (t : List (List Edge)). t ++ new.items ∷ []) before
     ∙ ap (λ (r : List Edge). map (wanted_of ws) (wanted_of (take at ws) (table_of (take at rows))) ++ r ∷ []) new_is ∙ sym right
 
@@ -144,7 +146,9 @@ module _ (ws : List Bool) (g : Graph) (graph : IsGraph g) where
       let long : length (get_or g.edges (source ws i) []) ≡ length g.vertices =
       All-get_or (λ (row : List Edge). length row ≡ length g.vertices) g.edges (source ws i) [] found.1 graph.columns in
       let within : j < length (wanted_of ws (get_or g.edges (source ws i) [])) = omega (arith, kept_row_length (get_or g.edges (source ws i) []) long) in
-      ap (λ (row : List Edge). get_or row j Missing) (get_or-map (λ (row : List Edge). wanted_of ws row) (wanted_of ws g.edges) i [] [] inside ∙ ap (λ (row : List Edge). wanted_of ws row) found.0)
+      ap (λ (row : List Edge). get_or row j Missing)
+      (get_or-map (λ (row : List Edge). wanted_of ws row) (wanted_of ws g.edges) i [] [] inside
+      ∙ ap (λ (row : List Edge). wanted_of ws row) found.0)
       ∙ (get_or-wanted_of ws (get_or g.edges (source ws i) []) j Missing within).0
 
   source_inside : (k : ℕ) → k < length (wanted_of ws g.vertices) → source ws k < length g.vertices
@@ -156,9 +160,11 @@ module _ (ws : List Bool) (g : Graph) (graph : IsGraph g) where
     few = omega (arith, length-wanted_of-le ws g.vertices, graph.few);
     rows = length-map (wanted_of ws g.edges) (λ (row : List Edge). wanted_of ws row) ∙ kept_rows;
     columns = All-map (λ (row : List Edge). length row ≡ length (wanted_of ws g.vertices)) (λ (row : List Edge). wanted_of ws row) (wanted_of ws g.edges)
-        (All-weaker (λ (row : List Edge). length row ≡ length g.vertices) (λ (row : List Edge). length (wanted_of ws row) ≡ length (wanted_of ws g.vertices)) kept_row_length (wanted_of ws g.edges)
+        (All-weaker (λ (row : List Edge). length row ≡ length g.vertices)
+        (λ (row : List Edge). length (wanted_of ws row) ≡ length (wanted_of ws g.vertices)) kept_row_length (wanted_of ws g.edges)
         (All-from_recursion (λ (row : List Edge). length row ≡ length g.vertices) (wanted_of ws g.edges)
-        (all_wanted (λ (row : List Edge). length row ≡ length g.vertices) ws g.edges (recursion_from_All (λ (row : List Edge). length row ≡ length g.vertices) g.edges graph.columns))));
+        (all_wanted (λ (row : List Edge). length row ≡ length g.vertices) ws g.edges
+        (recursion_from_All (λ (row : List Edge). length row ≡ length g.vertices) g.edges graph.columns))));
     one_way = λ u v from to.
         edge_at-kept_of u v from to ∙ graph.one_way (source ws u) (source ws v) (source_inside u from) (source_inside v to)
         ∙ ap opposite_of (sym (edge_at-kept_of v u to from));

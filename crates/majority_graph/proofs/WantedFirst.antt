@@ -22,7 +22,8 @@ module _ {X : Type 0} (xs : List X) (i j : ℕ) (d : X) (low : i ≤ j) (inside 
   there : get_or ys i d ≡ get_or xs j d
   there = elim (cases_eq i j) [
     | inl same ↦
-        ap (λ (k : ℕ). get_or ys k d) same ∙ get_or-set_same (set xs i (get_or xs j d)) j (get_or xs i d) d (omega (arith, first_set, inside)) ∙ ap (λ (k : ℕ). get_or xs k d) same
+        ap (λ (k : ℕ). get_or ys k d) same ∙ get_or-set_same (set xs i (get_or xs j d)) j (get_or xs i d) d (omega (arith, first_set, inside))
+        ∙ ap (λ (k : ℕ). get_or xs k d) same
     | inr other ↦
         get_or-set_other (set xs i (get_or xs j d)) j i (get_or xs i d) d other ∙ get_or-set_same xs i (get_or xs j d) d (omega (arith, low, inside))
   ]
@@ -32,7 +33,8 @@ module _ {X : Type 0} (xs : List X) (i j : ℕ) (d : X) (low : i ≤ j) (inside 
   taken_more =
       ap (take (i + 1)) (sym (swap_is xs i j d (omega (arith, low, inside)) inside))
       ∙ take_more ys i d (omega (arith, length-set (set xs i (get_or xs j d)) j (get_or xs i d), first_set, low, inside))
-      ∙ ap (λ (zs : List X). zs ++ get_or ys i d ∷ []) (take-set-le i (set xs i (get_or xs j d)) j (get_or xs i d) low ∙ take-set-le i xs i (get_or xs j d) (omega arith))
+      ∙ ap (λ (zs : List X). zs ++ get_or ys i d ∷ [])
+      (take-set-le i (set xs i (get_or xs j d)) j (get_or xs i d) low ∙ take-set-le i xs i (get_or xs j d) (omega arith))
       ∙ ap (λ (x : X). take i xs ++ x ∷ []) there
 
   -- what stands after both is left
@@ -42,7 +44,8 @@ module _ {X : Type 0} (xs : List X) (i j : ℕ) (d : X) (low : i ≤ j) (inside 
       ∙ get_or-set_other (set xs i (get_or xs j d)) j k (get_or xs i d) d (λ (same : k ≡ j). omega (arith, same, after))
       ∙ get_or-set_other xs i k (get_or xs j d) d (λ (same : k ≡ i). omega (arith, same, low, after))
 
-pub gathered : {X : Type 0} (ws : List Bool) (old xs : List X) (count at : ℕ) → length ws ≡ length old → at < length ws → count ≤ at → length xs ≡ length old → get_or ws at false ≡ true
+pub gathered : {X : Type 0} (ws : List Bool) (old xs : List X) (count at : ℕ) → length ws ≡ length old → at < length ws → count ≤ at
+    → length xs ≡ length old → get_or ws at false ≡ true
     → take count xs ≡ wanted_of (take at ws) (take at old) → ((k : ℕ) (d : X) → at ≤ k → get_or xs k d ≡ get_or old k d)
     → take (count + 1) (swap xs count at) ≡ wanted_of (take (at + 1) ws) (take (at + 1) old)
 gathered ws old [] count at each inside low long is prefix rest = absurd (omega (arith, each, inside, long))
@@ -76,8 +79,10 @@ with_rows vertices edges = record { vertices = vertices; edges = edges }
 abbrev graph_by : ℕ → List Ranked → Graph
 graph_by threshold all = with_rows (map (λ r. r.tx) all) (map (λ u. map (ranked_edge threshold u) all) all)
 
-pub kept_graph : (threshold : ℕ) (ws : List Bool) (all kept : List Ranked) → kept ≡ wanted_of ws all → graph_by threshold kept ≡ kept_of ws (graph_by threshold all)
+pub kept_graph : (threshold : ℕ) (ws : List Bool) (all kept : List Ranked) → kept ≡ wanted_of ws all
+    → graph_by threshold kept ≡ kept_of ws (graph_by threshold all)
 kept_graph threshold ws all kept is =
     ap (graph_by threshold) is
-    ∙ ap (λ (vertices : List Tx). with_rows vertices (map (λ u. map (ranked_edge threshold u) (wanted_of ws all)) (wanted_of ws all))) (map-wanted_of (λ r. r.tx) ws all)
+    ∙ ap (λ (vertices : List Tx). with_rows vertices (map (λ u. map (ranked_edge threshold u) (wanted_of ws all)) (wanted_of ws all)))
+    (map-wanted_of (λ r. r.tx) ws all)
     ∙ ap (with_rows (wanted_of ws (map (λ r. r.tx) all))) (kept_rows (ranked_edge threshold) ws all)

@@ -7,10 +7,12 @@ use Rattle.quorum_cert.proofs.Dropped.{drop_found}
 
 module _ {X : Type 0} (p : X → Bool) (xs : List X) where
   -- the item at a place passes
-  pub passes : (k : ℕ) → option_map_or p (slice_get xs k) false ≡ true → (x : X) × (slice_get xs k ≡ Some x) × (filter p (drop k xs) ≡ x ∷ filter p (drop (k + 1) xs))
+  pub passes : (k : ℕ) → option_map_or p (slice_get xs k) false ≡ true
+      → (x : X) × (slice_get xs k ≡ Some x) × (filter p (drop k xs) ≡ x ∷ filter p (drop (k + 1) xs))
   passes k is = by (slice_get xs k) refl is
     where
-      by : (found : Option X) → slice_get xs k ≡ found → option_map_or p found false ≡ true → (x : X) × (slice_get xs k ≡ Some x) × (filter p (drop k xs) ≡ x ∷ filter p (drop (k + 1) xs))
+      by : (found : Option X) → slice_get xs k ≡ found → option_map_or p found false ≡ true
+          → (x : X) × (slice_get xs k ≡ Some x) × (filter p (drop k xs) ≡ x ∷ filter p (drop (k + 1) xs))
       by None at e = absurd (cc)
       by (Some x) at e = (x, at, rw (drop_found xs k x at, e) refl)
 

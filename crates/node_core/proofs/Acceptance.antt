@@ -56,7 +56,8 @@ module _ (gives : Gives) (s : State) where
       (subst (λ (r : Reason). IsAccepted gives s (kept_order_for gives s own r) (accepted.Order own)) (sym is)
       (record { applies = refl; passed = tt; changes = order_changes s gives own fresh }))
 
-  pub propose_accepted : (fits : Check) (own block : Block) (digest : Digest) → own ≡ block → proposed_reason fits s.known own ≡ Done → IsStorable s.known own digest
+  pub propose_accepted : (fits : Check) (own block : Block) (digest : Digest) → own ≡ block → proposed_reason fits s.known own ≡ Done
+      → IsStorable s.known own digest
       → s.known.safety.voted < own.view → IsAccepted gives s (proposed_for gives s block (proposed_reason fits s.known block)) (accepted.Propose own digest)
   propose_accepted fits own block digest same is storable later =
       subst (λ (b : Block). IsAccepted gives s (proposed_for gives s b (proposed_reason fits s.known b)) (accepted.Propose own digest)) same

@@ -51,7 +51,8 @@ open_ballot s v d replica none new = by (place_of v d s.boxes) refl
           for = found.1;
           unformed = All-get_or (λ (x : Ballot). x.votes.formed ≡ false) s.boxes at empty found.0 none;
           new = elim (cases_Bool (has_vote b.votes.votes replica)) [
-            | inl has ↦ absurd (both_ways (has_voted s.boxes v d replica) new (list_any_at (λ (x : Ballot). is_for v d x && has_vote x.votes.votes replica) s.boxes at empty found.0 (and_from _ _ found.1 has)))
+            | inl has ↦ absurd (both_ways (has_voted s.boxes v d replica) new
+                (list_any_at (λ (x : Ballot). is_for v d x && has_vote x.votes.votes replica) s.boxes at empty found.0 (and_from _ _ found.1 has)))
             | inr lacks ↦ lacks
           ];
         }
@@ -63,7 +64,8 @@ open_ballot s v d replica none new = by (place_of v d s.boxes) refl
 -- ---- the ballot with the vote
 
 -- If the vote completes no certificate, it is kept.
-kept : (box : Box) (vote : CertVote) → is_again box vote.replica ≡ false → formed_votes (keep_answer box vote) ≡ None → has_vote (kept_in box vote).votes vote.replica ≡ true
+kept : (box : Box) (vote : CertVote) → is_again box vote.replica ≡ false → formed_votes (keep_answer box vote) ≡ None
+    → has_vote (kept_in box vote).votes vote.replica ≡ true
 kept box vote new none = elim (cases_Bool (wants_more box vote)) [
   | inl wants ↦ rw (new, wants) (
       let votes = box.votes in
@@ -92,7 +94,8 @@ certified_changes s t gives f same above =
     let next : State = knowing after (proposing_next f.cert after.known) in
     let below : t.known.high.view < f.cert.view = subst (λ (c : Cert). c.view < f.cert.view) (sym same) above in
     let high : after.known.high ≡ f.cert = seen_high f.cert t.known below in
-    if_changed s (nat_eq f.cert.view after.known.views) _ _ (changed s after _ refl refl (higher s after f.cert above high)) (sealed_changed s next gives (proposal next.known.me (next_block f)) (everyone next.known) (higher s next f.cert above high))
+    if_changed s (nat_eq f.cert.view after.known.views) _ _ (changed s after _ refl refl (higher s after f.cert above high))
+    (sealed_changed s next gives (proposal next.known.me (next_block f)) (everyone next.known) (higher s next f.cert above high))
 
 -- ---- a vote
 
@@ -116,8 +119,11 @@ module _ (s : State) (vote : Vote) (order : Option SealedOrder) where
       let none_formed : formed_votes (keep_answer ballot.votes (bare vote)) ≡ None = none_mapped _ _ none in
       let again : is_again ballot.votes vote.replica ≡ false = rw is.unformed is.new in
       let has : holds next ≡ true = and_from _ _ is.for (kept ballot.votes (bare vote) again none_formed) in
-      let boxes : others v d s.known.boxes ++ next ∷ [] ≡ s.known.boxes = subst (λ (f : Option Formed). voting.boxes_with f (others v d s.known.boxes) next ≡ s.known.boxes) none (ap (λ (k : Known). k.boxes) same) in
-      let voted : list_any holds (others v d s.known.boxes ++ next ∷ []) ≡ true = list_any-append holds (others v d s.known.boxes) (next ∷ []) ∙ at_end (list_any holds (others v d s.known.boxes)) (holds next) has in
+      let boxes : others v d s.known.boxes ++ next ∷ [] ≡ s.known.boxes =
+      subst (λ (f : Option Formed). voting.boxes_with f (others v d s.known.boxes) next ≡ s.known.boxes) none
+      (ap (λ (k : Known). k.boxes) same) in
+      let voted : list_any holds (others v d s.known.boxes ++ next ∷ []) ≡ true = list_any-append holds (others v d s.known.boxes) (next ∷ [])
+      ∙ at_end (list_any holds (others v d s.known.boxes)) (holds next) has in
       both_ways (has_voted s.known.boxes v d vote.replica) new (rw boxes at voted)
     where
       none_mapped : {A B : Type 0} (f : A → B) (x : Option A) → option_map f x ≡ None → x ≡ None
@@ -133,7 +139,8 @@ module _ (s : State) (vote : Vote) (order : Option SealedOrder) where
   unfolding formed
   formed_view f is = of_some _ (formed_votes (keep_answer (ballot_of s.known vote.view vote.block).votes (bare vote))) (λ votes. refl) is
     where
-      of_some : {A : Type 0} (make : A → Formed) (x : Option A) → ((a : A) → (make a).cert.view ≡ vote.view) → option_map make x ≡ Some f → f.cert.view ≡ vote.view
+      of_some : {A : Type 0} (make : A → Formed) (x : Option A) → ((a : A) → (make a).cert.view ≡ vote.view) → option_map make x ≡ Some f
+          → f.cert.view ≡ vote.view
       of_some make None all e = absurd (cc)
       of_some make (Some a) all e =
           let same : make a ≡ f = cc in
@@ -150,4 +157,5 @@ vote_changes s gives vote order above new = by (result s vote order) refl
   where
     by : (f : Option Formed) → result s vote order ≡ f → Changes s (certified_if gives (after s vote order) f)
     by None is = changed s (after s vote order) _ refl refl (noted s vote order new is)
-    by (Some f) is = certified_changes s (after s vote order) gives f (same_high s vote order) (subst (λ (n : ℕ). s.known.high.view < n) (sym (formed_view s vote order f is)) above)
+    by (Some f) is = certified_changes s (after s vote order) gives f (same_high s vote order)
+        (subst (λ (n : ℕ). s.known.high.view < n) (sym (formed_view s vote order f is)) above)

@@ -61,7 +61,8 @@ new_view_changes s gives from call =
     let after : State = knowing s (joined from call s.known) in
     let next : State = knowing after (asked_for call.view after.known) in
     if_changed s (nat_eq (callers_of after.known.gathered call.view) (quorum_of after.known.setting)) _ _
-    (sealed_changed s next gives (call_spelling ASK next.known.me next.known.asked next.known.high) (everyone next.known) (called s next caller refl)) (changed s after _ refl refl (called s after caller refl))
+    (sealed_changed s next gives (call_spelling ASK next.known.me next.known.asked next.known.high) (everyone next.known) (called s next caller refl))
+    (changed s after _ refl refl (called s after caller refl))
 
 pub ask_changes : (s : State) (gives : Gives) (from : ℕ) (call : Call) → s.known.ordered < call.view → Changes s (ask_done gives s from call)
 unfolding ask_done
@@ -119,7 +120,8 @@ pub give_changes : (s : State) (block : Block) → is_stored s.known.store (bloc
 unfolding give_done
 give_changes s block fresh =
     changed s (knowing s (taken block s.known)) _ refl refl (λ none same. (
-    let absent : is_some (block_at s.known.store (block_digest block)) ≡ false = (or_parts (digest_eq (block_digest block) first_digest) (is_some (block_at s.known.store (block_digest block))) fresh).1 in
+    let absent : is_some (block_at s.known.store (block_digest block)) ≡ false =
+    (or_parts (digest_eq (block_digest block) first_digest) (is_some (block_at s.known.store (block_digest block))) fresh).1 in
     let longer : length (taken block s.known).store ≡ length s.known.store = ap (λ (k : Known). length k.store) same in
     let is : length (s.known.store ++ block ∷ []) ≡ length s.known.store = rw absent at longer in
     omega (arith, is, length_push s.known.store block)))

@@ -126,7 +126,8 @@ impl<S: Sealer> Node<S> {
         ensures halted { (result ≡ Err NodeFault.Halted) ↔ IsTrue self.old.halted }
         ensures stopped { OnErr result (IsTrue self.new.halted) }
         ensures running { OnOk result (self.new.halted ≡ false) }
-        ensures memory { result ≡ Err NodeFault.NoMemory → MayRunOut (C.meaning checker.now) self.old.state event.now (turn_of (C.meaning checker.now) (S.gives self.old.sealer) self.old.state event.now) }
+        ensures memory { result ≡ Err NodeFault.NoMemory → MayRunOut (C.meaning checker.now) self.old.state event.now
+            (turn_of (C.meaning checker.now) (S.gives self.old.sealer) self.old.state event.now) }
     {
         if self.halted {
             return Err(NodeFault::Halted);
@@ -145,7 +146,8 @@ impl<S: Sealer> Node<S> {
             turn_of (C.meaning checker.now) (S.gives self.old.sealer) self.old.state event.now ≡ record { reported = t; state = self.new.state }) }
         ensures readable { OnOk result (IsReadable event.now) }
         ensures seat { KeepsSeat S.Sealer self.old self.new }
-        ensures memory { OnErr result (MayRunOut (C.meaning checker.now) self.old.state event.now (turn_of (C.meaning checker.now) (S.gives self.old.sealer) self.old.state event.now)) }
+        ensures memory { OnErr result
+            (MayRunOut (C.meaning checker.now) self.old.state event.now (turn_of (C.meaning checker.now) (S.gives self.old.sealer) self.old.state event.now)) }
     {
         match self.judge(checker, event)? {
             Judged::Idle(turned) => Ok(turned),

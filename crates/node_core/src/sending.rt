@@ -80,7 +80,8 @@ impl<S: Sealer> Node<S> {
         seal: &Seal,
         receivers: Receivers,
     ) -> Result<Turned, NoMemory>
-        ensures { IfOk result (λ t. t ≡ reported self.now.state Reason.Done (statement ∷ []) (to_each (replicas_of receivers) (sealed_bytes statement seal.now))) }
+        ensures { IfOk result
+            (λ t. t ≡ reported self.now.state Reason.Done (statement ∷ []) (to_each (replicas_of receivers) (sealed_bytes statement seal.now))) }
     {
         let message = sealed_message(self.alloc, statement.as_slice(), seal)?;
         let sealed = listed(self.alloc, statement)?;

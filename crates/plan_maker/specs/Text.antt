@@ -8,7 +8,8 @@ use Rattle.plan_maker.specs.Order.{made_order}
 
 -- the keys before the arrivals; 10 is a line feed
 abbrev pub head_text : ℕ → List ℕ
-head_text seed = codes "n = 5\nf = 1\np = 1\nq = 1\nseed = " ++ decimal seed ++ codes "\nheight = 10\nviews = 200\nticks = 4\nturns = 10000\nprint = \"summary\"\n"
+head_text seed = codes "n = 5\nf = 1\np = 1\nq = 1\nseed = " ++ decimal seed
+    ++ codes "\nheight = 10\nviews = 200\nticks = 4\nturns = 10000\nprint = \"summary\"\n"
 
 -- 34 is a quotation mark
 abbrev pub quoted : Tx → List ℕ

@@ -35,7 +35,8 @@ use Rattle.plan_text.proofs.TxTexts.{text_of_tx}
 -- ---- reading in steps
 
 -- a property of the items so far that each step preserves holds for all of them
-kept : {X : Type 0} (P : List X → Type 0) (read : List X → Data → Read X) → ((before : List X) (d : Data) (x : X) → P before → read before d ≡ Ok x → P (before ++ x ∷ []))
+kept : {X : Type 0} (P : List X → Type 0) (read : List X → Data → Read X)
+    → ((before : List X) (d : Data) (x : X) → P before → read before d ≡ Ok x → P (before ++ x ∷ []))
     → (before : List X) (values : List Data) (xs : List X) → P before → read_each read before values ≡ Ok xs → P xs
 kept P read step before [] xs so_far is = let same : before ≡ xs = cc in subst P same so_far
 kept P read step before (d ∷ values) xs so_far is =
@@ -101,7 +102,8 @@ client_more before d c are is =
     let small : id ≤ 4294967295 = number_at_small 1 4294967295 (codes "id") t id at_id in
     let new : All (λ (x : Client). (x.id == id) ≡ false) before = all_fail (λ x. x.id == id) before (refused_ok _ _ _ v fresh) in
     subst (λ (x : Client). AreClients (before ++ x ∷ [])) same (record {
-      differ = pairs_more (λ x y. x.id ≢ y.id) before made are.differ (All-weaker (λ (x : Client). (x.id == id) ≡ false) (λ (x : Client). x.id ≢ id) (other_number id) before new);
+      differ = pairs_more (λ x y. x.id ≢ y.id) before made are.differ
+          (All-weaker (λ (x : Client). (x.id == id) ≡ false) (λ (x : Client). x.id ≢ id) (other_number id) before new);
       small = All-push (λ (x : Client). x.id < 2 ^ 32) before made are.small (omega (arith, small));
     })
 
@@ -130,13 +132,15 @@ tx_fits (datetime x) t is = absurd (cc)
 tx_fits (array ds) t is = absurd (cc)
 tx_fits (table ms) t is = absurd (cc)
 
-fresh_ok : (clients : List Client) (had : List Tx) (r : Result Tx FaultKind) (t : Tx) → fresh_tx clients had r ≡ Ok t → (r ≡ Ok t) × (is_client clients t.client ≡ false) × (holds t had ≡ false)
+fresh_ok : (clients : List Client) (had : List Tx) (r : Result Tx FaultKind) (t : Tx) → fresh_tx clients had r ≡ Ok t
+    → (r ≡ Ok t) × (is_client clients t.client ≡ false) × (holds t had ≡ false)
 fresh_ok clients had (Err kind) t is = absurd (cc)
 fresh_ok clients had (Ok u) t is = elim (cases_Bool (is_client clients u.client || holds u had)) [
   | inl so ↦ let wrong = rw so at is in absurd (cc)
   | inr not_so ↦
       let same : u ≡ t = cc (rw not_so at is) in
-      let parts : (is_client clients t.client ≡ false) × (holds t had ≡ false) = or_parts _ _ (subst (λ (x : Tx). (is_client clients x.client || holds x had) ≡ false) same not_so) in
+      let parts : (is_client clients t.client ≡ false) × (holds t had ≡ false) =
+      or_parts _ _ (subst (λ (x : Tx). (is_client clients x.client || holds x had) ≡ false) same not_so) in
       (ap (λ (x : Tx). Ok x) same, parts.0, parts.1)
 ]
 
@@ -151,19 +155,23 @@ module _ (clients : List Client) where
   other_tx : (t x : Tx) → tx_eq x t ≡ false → x ≢ t
   other_tx t x other same = false≢true (sym other ∙ (tx_eq_decides x t).1 same)
 
-  others_more : (txs : List Tx) (t : Tx) → AreOthers clients txs → FitsTx t → is_client clients t.client ≡ false → holds t txs ≡ false → AreOthers clients (txs ++ t ∷ [])
+  others_more : (txs : List Tx) (t : Tx) → AreOthers clients txs → FitsTx t → is_client clients t.client ≡ false → holds t txs ≡ false
+      → AreOthers clients (txs ++ t ∷ [])
   others_more txs t are fits other new = record {
-    distinct = pairs_more (λ x y. x ≢ y) txs t are.distinct (All-weaker (λ x. tx_eq x t ≡ false) (λ x. x ≢ t) (other_tx t) txs (all_fail (λ x. tx_eq x t) txs new));
+    distinct = pairs_more (λ x y. x ≢ y) txs t are.distinct
+        (All-weaker (λ x. tx_eq x t ≡ false) (λ x. x ≢ t) (other_tx t) txs (all_fail (λ x. tx_eq x t) txs new));
     fits = All-push FitsTx txs t are.fits fits;
     others = All-push (λ (x : Tx). is_client clients x.client ≡ false) txs t are.others other;
   }
 
-  tx_more : (had : List Tx) (t : Section) (before : List Tx) (d : Data) (x : Tx) → AreOthers clients (had ++ before) → tx_after clients had t before d ≡ Ok x → AreOthers clients (had ++ (before ++ x ∷ []))
+  tx_more : (had : List Tx) (t : Section) (before : List Tx) (d : Data) (x : Tx) → AreOthers clients (had ++ before)
+      → tx_after clients had t before d ≡ Ok x → AreOthers clients (had ++ (before ++ x ∷ []))
   tx_more had t before d x others is =
       let (read, apart, new) = fresh_ok clients (had ++ before) (tx_in d) x (named_ok _ _ x is) in
       subst (AreOthers clients) (append_assoc had before (x ∷ [])) (others_more (had ++ before) x others (tx_fits d x read) apart new)
 
-  arrival_more : (n : ℕ) (before : List Arrival) (d : Data) (a : Arrival) → ((r : ℕ) → AreOthers clients (received r before)) → arrival_in n clients before d ≡ Ok a
+  arrival_more : (n : ℕ) (before : List Arrival) (d : Data) (a : Arrival) → ((r : ℕ) → AreOthers clients (received r before))
+      → arrival_in n clients before d ≡ Ok a
       → (r : ℕ) → AreOthers clients (received r (before ++ a ∷ []))
   unfolding arrival_in
   arrival_more n before d a so_far is =
@@ -176,7 +184,8 @@ module _ (clients : List Client) where
       let same : record { replica = replica; turn = turn; txs = txs } ≡ a = cc more in
       let had : List Tx = received replica before in
       let first : AreOthers clients (had ++ []) = subst (AreOthers clients) (sym (append-nil had)) (so_far replica) in
-      let all : AreOthers clients (had ++ txs) = kept (λ (ts : List Tx). AreOthers clients (had ++ ts)) (tx_after clients had t) (tx_more had t) [] values txs first each in
+      let all : AreOthers clients (had ++ txs) =
+      kept (λ (ts : List Tx). AreOthers clients (had ++ ts)) (tx_after clients had t) (tx_more had t) [] values txs first each in
       subst (λ (x : Arrival). (r : ℕ) → AreOthers clients (received r (before ++ x ∷ []))) same (λ r. one_more replica turn txs r all)
     where
       one_more : (replica turn : ℕ) (txs : List Tx) (r : ℕ) → AreOthers clients (received replica before ++ txs)
@@ -190,15 +199,18 @@ module _ (clients : List Client) where
             | inr not_so ↦ rw (not_so, append-nil (received r before)) (so_far r)
           ])
 
-  arrivals_read : (setting : Parameters) (s : Section) (arrivals : List Arrival) → arrivals_at setting clients s ≡ Ok arrivals → (r : ℕ) → AreOthers clients (received r arrivals)
+  arrivals_read : (setting : Parameters) (s : Section) (arrivals : List Arrival) → arrivals_at setting clients s ≡ Ok arrivals → (r : ℕ)
+      → AreOthers clients (received r arrivals)
   unfolding arrivals_at
   arrivals_read setting s arrivals is =
       let (values, here, more) = read_first (at_key_or [] array_in (codes "arrival") s) _ arrivals is in
-      kept (λ (x : List Arrival). (r : ℕ) → AreOthers clients (received r x)) (arrival_in setting.n clients) (arrival_more setting.n) [] values arrivals (λ r. no_others) more
+      kept (λ (x : List Arrival). (r : ℕ) → AreOthers clients (received r x)) (arrival_in setting.n clients)
+      (arrival_more setting.n) [] values arrivals (λ r. no_others) more
 
 -- ---- plans
 
-pub read_apart : (s : Section) (setting : Parameters) (plan : Plan) → clients_at s ≡ Ok plan.clients → arrivals_at setting plan.clients s ≡ Ok plan.arrivals → KeepsApart plan
+pub read_apart : (s : Section) (setting : Parameters) (plan : Plan) → clients_at s ≡ Ok plan.clients
+    → arrivals_at setting plan.clients s ≡ Ok plan.arrivals → KeepsApart plan
 read_apart s setting plan at_clients at_arrivals =
     let are = clients_read s plan.clients at_clients in
     record {
@@ -229,12 +241,14 @@ plans_keep_apart bytes plan is =
     on_read (deeds_at faulty head.views top) _ plan more (λ deeds at_deeds more.
     on_read (restarts_at head.setting faulty top) _ plan more (λ restarts at_restarts more.
     on_read (refused (overflows head.setting clients arrivals) Range (codes "arrival") top) _ plan more (λ v within more.
-    apart clients arrivals plan (ap clients_of more) (ap arrivals_of more) (clients_read top clients at_clients) (arrivals_read clients head.setting top arrivals at_arrivals))))))))))))
+    apart clients arrivals plan (ap clients_of more) (ap arrivals_of more) (clients_read top clients at_clients)
+    (arrivals_read clients head.setting top arrivals at_arrivals))))))))))))
   where
     apart : (clients : List Client) (arrivals : List Arrival) (plan : Plan) → clients ≡ plan.clients → arrivals ≡ plan.arrivals → AreClients clients
         → ((r : ℕ) → AreOthers clients (received r arrivals)) → KeepsApart plan
     apart clients arrivals plan from_clients from_arrivals are others = record {
       clients_differ = subst (AllPairs (λ c d. c.id ≢ d.id)) from_clients are.differ;
       clients_small = subst (All (λ c. c.id < 2 ^ 32)) from_clients are.small;
-      arrivals = λ r. subst (λ (x : List Client). AreOthers x (received r plan.arrivals)) from_clients (subst (λ (x : List Arrival). AreOthers clients (received r x)) from_arrivals (others r));
+      arrivals = λ r. subst (λ (x : List Client). AreOthers x (received r plan.arrivals)) from_clients
+          (subst (λ (x : List Arrival). AreOthers clients (received r x)) from_arrivals (others r));
     }

@@ -40,7 +40,8 @@ tx_in-word (datetime d) t same = cc
 tx_in-word (table ms) t same = cc
 
 -- the first key of a map that passes a test of its bytes
-pub find-keys_in : (p : List ℕ → Bool) (es : List Entry) → find p (keys_in (members_view es)) ≡ option_map string_bytes (find (λ (k : String Global). p (string_bytes k)) (keys_of es))
+pub find-keys_in : (p : List ℕ → Bool) (es : List Entry)
+    → find p (keys_in (members_view es)) ≡ option_map string_bytes (find (λ (k : String Global). p (string_bytes k)) (keys_of es))
 find-keys_in p [] = refl
 find-keys_in p (e ∷ es) =
     elim (cases_Bool (p (string_bytes e.0))) [
@@ -49,7 +50,8 @@ find-keys_in p (e ∷ es) =
     ]
 
 -- a name that is the key is among the names
-pub is_named-at : (names : List (Bor (List ℕ))) (key : List ℕ) (i : ℕ) (d : Bor (List ℕ)) → i < length names → bytes_eq (get_or names i d).now key ≡ true → is_named (map (λ name. name.now) names) key ≡ true
+pub is_named-at : (names : List (Bor (List ℕ))) (key : List ℕ) (i : ℕ) (d : Bor (List ℕ)) → i < length names
+    → bytes_eq (get_or names i d).now key ≡ true → is_named (map (λ name. name.now) names) key ≡ true
 is_named-at [] key i d within same = absurd (omega arith)
 is_named-at (n ∷ names) key zero d within same = rw same
 is_named-at (n ∷ names) key (suc i) d within same = rw (is_named-at names key i d (omega arith) same, or-true (bytes_eq n.now key))

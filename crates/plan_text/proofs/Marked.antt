@@ -87,7 +87,8 @@ pub two_total : IsTotalOrder two_cmp
 two_total = then_total (on_total (λ (t : ℕ × ℕ). t.0) nat_cmp_total) (on_total (λ (t : ℕ × ℕ). t.1) nat_cmp_total)
 
 pub three_total : IsTotalOrder three_cmp
-three_total = then_total (then_total (on_total (λ (t : ℕ × ℕ × ℕ). t.0) nat_cmp_total) (on_total (λ (t : ℕ × ℕ × ℕ). t.1) nat_cmp_total)) (on_total (λ (t : ℕ × ℕ × ℕ). t.2) nat_cmp_total)
+three_total = then_total (then_total (on_total (λ (t : ℕ × ℕ × ℕ). t.0) nat_cmp_total) (on_total (λ (t : ℕ × ℕ × ℕ). t.1) nat_cmp_total))
+    (on_total (λ (t : ℕ × ℕ × ℕ). t.2) nat_cmp_total)
 
 pub two_ties : (a b c d : ℕ) → ((a == c) && (b == d)) ≡ is_eq (two_cmp (a, b) (c, d))
 two_ties a b c d = both_tied (a == c) (b == d) (nat_cmp a c) (nat_cmp b d) (unsigned_ties a c) (unsigned_ties b d)

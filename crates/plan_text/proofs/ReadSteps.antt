@@ -18,7 +18,8 @@ blames_then (Fault f) r next is = rw is
 blames_then NoMemory r next is = tt
 
 -- an error that is passed on is the same fault
-pub handed_on : {X Y : Type 0} (shown : X → Y) (result : Result X PlanError) (e : PlanError) (r : Read Y) → IsErrAnd result (λ given. given ≡ e) → Blames e r → ReadsAs shown result r
+pub handed_on : {X Y : Type 0} (shown : X → Y) (result : Result X PlanError) (e : PlanError) (r : Read Y)
+    → IsErrAnd result (λ given. given ≡ e) → Blames e r → ReadsAs shown result r
 handed_on shown (Ok x) e r is blames = absurd is
 handed_on shown (Err given) e r is blames = rw is blames
 
@@ -28,7 +29,8 @@ pub read_each-more : {X V : Type 0} (read : List X → Data → Read X) (shown :
     → read_each read before (map shown (drop i vs)) ≡ read_each read (before ++ x ∷ []) (map shown (drop (i + 1) vs))
 read_each-more read shown before vs i d x within is = rw (drop_more vs i d within, is)
 
-pub read_each-stops : {X V : Type 0} (read : List X → Data → Read X) (shown : V → Data) (before : List X) (vs : List V) (i : ℕ) (d : V) (e : PlanError) → i < length vs
+pub read_each-stops : {X V : Type 0} (read : List X → Data → Read X) (shown : V → Data) (before : List X) (vs : List V) (i : ℕ) (d : V)
+    (e : PlanError) → i < length vs
     → Blames e (read before (shown (get_or vs i d)))
     → Blames e (read_each read before (map shown (drop i vs)))
 read_each-stops read shown before vs i d e within is = rw (drop_more vs i d within) (blames_then e (read before (shown (get_or vs i d))) _ is)

@@ -76,7 +76,9 @@ has_met set earlier replica before tx marks =
     same_number : (r : ℕ) → (r == r) ≡ true
     same_number r = grind (arith, nat_tests)
 
-pub fresh_as_met : (clients : List Client) (set : BTreeSet (ℕ × Tx)) (earlier : List Arrival) (replica : ℕ) (before : List Tx) (r : Result Tx FaultKind) → HasReceivedMore set earlier replica before
+pub fresh_as_met : (clients : List Client)
+    (set : BTreeSet (ℕ × Tx)) (earlier : List Arrival) (replica : ℕ) (before : List Tx) (r : Result Tx FaultKind)
+    → HasReceivedMore set earlier replica before
     → fresh_or_met clients set replica r ≡ fresh_tx clients (received replica earlier ++ before) r
 fresh_as_met clients set earlier replica before (Ok tx) marks = rw (has_met set earlier replica before tx marks)
 fresh_as_met clients set earlier replica before (Err kind) marks = refl
@@ -84,7 +86,10 @@ fresh_as_met clients set earlier replica before (Err kind) marks = refl
 pub more_insert : (old new : BTreeSet (ℕ × Tx)) (earlier : List Arrival) (replica : ℕ) (before : List Tx) (tx : Tx) → HasReceivedMore old earlier replica before
     → Updates receipt_cmp old new (replica, tx) true → HasReceivedMore new earlier replica (before ++ tx ∷ [])
 more_insert old new earlier replica before tx marks updates =
-    rw (map-append {B = ℕ × Tx} (λ (t : Tx). (replica, t)) before (tx ∷ []), ← append_assoc (receipts earlier) (receipts_of replica before) ((replica, tx) ∷ []))
+    rw (
+      map-append {B = ℕ × Tx} (λ (t : Tx). (replica, t)) before (tx ∷ []),
+      ← append_assoc (receipts earlier) (receipts_of replica before) ((replica, tx) ∷ []),
+    )
     (marks_insert receipt_cmp receipt_total receipt old new (receipts earlier ++ receipts_of replica before) (replica, tx) marks updates)
 
 -- where none overflows, each is within a log
@@ -95,17 +100,23 @@ none_overflows clients arrivals n none r below =
     let at : get_or (range_with_len 0 n) r 0 ≡ r = get_or-range_with_len 0 n r 0 below ∙ omega arith in
     elim (cases_Bool (nat_lt 65536 (total_received clients arrivals r))) [
       | inl over ↦
-          absurd (false≢true (sym none ∙ list_any_at (λ replica. nat_lt 65536 (total_received clients arrivals replica)) (range_with_len 0 n) r 0 (rw length-range_with_len below)
+          absurd (false≢true (sym none ∙ list_any_at (λ replica. nat_lt 65536 (total_received clients arrivals replica))
+          (range_with_len 0 n) r 0 (rw length-range_with_len below)
           (rw at over)))
       | inr within ↦ ltb-false 65536 (total_received clients arrivals r) within
     ]
 
 -- the next transaction of an arrival, where it is absent from the set, and where it is refused
-pub tx_after-ok : (clients : List Client) (set : BTreeSet (ℕ × Tx)) (earlier : List Arrival) (replica : ℕ) (t : Section) (before : List Tx) (d : Data) (tx : Tx) → HasReceivedMore set earlier replica before
+pub tx_after-ok : (clients : List Client)
+    (set : BTreeSet (ℕ × Tx)) (earlier : List Arrival) (replica : ℕ) (t : Section) (before : List Tx) (d : Data) (tx : Tx)
+    → HasReceivedMore set earlier replica before
     → fresh_or_met clients set replica (tx_in d) ≡ Ok tx → tx_after clients (received replica earlier) t before d ≡ Ok tx
 tx_after-ok clients set earlier replica t before d tx marks fresh = rw (← fresh_as_met clients set earlier replica before (tx_in d) marks, fresh)
 
-pub tx_after-err : (clients : List Client) (set : BTreeSet (ℕ × Tx)) (earlier : List Arrival) (replica : ℕ) (t : Section) (before : List Tx) (d : Data) (kind : FaultKind) (e : PlanError) → HasReceivedMore set earlier replica before
-    → fresh_or_met clients set replica (tx_in d) ≡ Err kind → IsFaultOf e kind (place (key_in t (codes "txs")) (length before)) → Blames e (tx_after clients (received replica earlier) t before d)
+pub tx_after-err : (clients : List Client) (set : BTreeSet (ℕ × Tx))
+    (earlier : List Arrival) (replica : ℕ) (t : Section) (before : List Tx) (d : Data) (kind : FaultKind) (e : PlanError)
+    → HasReceivedMore set earlier replica before
+    → fresh_or_met clients set replica (tx_in d) ≡ Err kind → IsFaultOf e kind (place (key_in t (codes "txs")) (length before))
+    → Blames e (tx_after clients (received replica earlier) t before d)
 tx_after-err clients set earlier replica t before d kind e marks refused is =
     rw (← fresh_as_met clients set earlier replica before (tx_in d) marks, refused) (names_blames Tx e kind (place (key_in t (codes "txs")) (length before)) is)

@@ -29,11 +29,13 @@ restart_met set earlier replica turn marks =
 pub link_met : (set : BTreeSet (ℕ × ℕ × ℕ)) (earlier : List LinkFault) (from to number : ℕ) → Marks three_cmp send_of set earlier
     → contains three_cmp set (from, to, number) ≡ has_link earlier from to number
 link_met set earlier from to number marks =
-    marks_test three_cmp send_of set earlier (from, to, number) (λ (link : LinkFault). ((from == link.from) && (to == link.to)) && (number == link.number)) marks
+    marks_test three_cmp send_of set earlier (from, to, number)
+    (λ (link : LinkFault). ((from == link.from) && (to == link.to)) && (number == link.number)) marks
     (λ link. three_ties from to number link.from link.to link.number)
 
 pub deed_met : (set : BTreeSet (ℕ × ℕ × ℕ)) (earlier : List Deed) (replica view : ℕ) (kind : DeedKind) → Marks three_cmp occasion_of set earlier
     → contains three_cmp set (replica, view, rank_of kind) ≡ has_deed earlier replica view kind
 deed_met set earlier replica view kind marks =
-    marks_test three_cmp occasion_of set earlier (replica, view, rank_of kind) (λ (deed : Deed). ((replica == deed.replica) && (view == deed.view)) && (rank_of kind == rank_of deed.kind)) marks
+    marks_test three_cmp occasion_of set earlier (replica, view, rank_of kind)
+    (λ (deed : Deed). ((replica == deed.replica) && (view == deed.view)) && (rank_of kind == rank_of deed.kind)) marks
     (λ deed. three_ties replica view (rank_of kind) deed.replica deed.view (rank_of deed.kind))

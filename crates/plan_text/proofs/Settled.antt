@@ -8,7 +8,13 @@ use Rattle.plan_text.specs.Head.{has_replicas, has_gamma, is_resilient, setting_
 pub valid_settled : (s : Parameters) → IsValid s → settled (setting_of s) ≡ Ok s
 valid_settled s valid =
     let replicas : has_replicas s ≡ true = rw (le-leb 1 s.n valid.replicas.some, le-leb s.n 16 valid.replicas.few) refl in
-    let gamma : has_gamma s ≡ true = rw (le-leb 1 s.q valid.gamma.positive, le-leb s.q 1000 valid.gamma.small, lt-ltb s.q (2 * s.p) valid.gamma.above_half, le-leb (2 * s.p) (2 * s.q) valid.gamma.at_most_one) refl in
+    let gamma : has_gamma s ≡ true = rw (
+      le-leb 1 s.q valid.gamma.positive,
+      le-leb s.q 1000 valid.gamma.small,
+      lt-ltb s.q (2 * s.p) valid.gamma.above_half,
+      le-leb (2 * s.p) (2 * s.q) valid.gamma.at_most_one,
+    )
+    refl in
     let resilient : is_resilient s ≡ true = lt-ltb (4 * s.f * s.q) (s.n * (2 * s.p - s.q)) valid.resilience.enough in
     rw (replicas, gamma, resilient) refl
 
@@ -43,7 +49,8 @@ settled_valid t s is =
 
 -- the numbers of a valid setting are small
 pub narrow : (s : Parameters) → IsValid s → (s.n < 2 ^ 32) × (s.f < 2 ^ 32) × (s.p < 2 ^ 32) × (s.q < 2 ^ 32)
-narrow s valid = (omega (arith, valid.replicas.few), faulty s valid, omega (arith, valid.gamma.at_most_one, valid.gamma.small), omega (arith, valid.gamma.small))
+narrow s valid =
+    (omega (arith, valid.replicas.few), faulty s valid, omega (arith, valid.gamma.at_most_one, valid.gamma.small), omega (arith, valid.gamma.small))
   where
     -- 4f ≤ 4fq < n(2p-q) ≤ 16 · 1000
     faulty : (s : Parameters) → IsValid s → s.f < 2 ^ 32

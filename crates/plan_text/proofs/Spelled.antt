@@ -49,7 +49,8 @@ no_line_feed : (words : List (List ℕ)) → AllByRecursion IsWord words → Lac
 no_line_feed [] all = tt
 no_line_feed (word ∷ []) all = word_lacks 10 word (omega arith) all.0
 no_line_feed (word ∷ next ∷ words) all =
-    lacks-append 10 word (32 ∷ line_of (next ∷ words)) (word_lacks 10 word (omega arith) all.0) ((λ same. absurd (omega (arith, same))), no_line_feed (next ∷ words) all.1)
+    lacks-append 10 word (32 ∷ line_of (next ∷ words)) (word_lacks 10 word (omega arith) all.0)
+    ((λ same. absurd (omega (arith, same))), no_line_feed (next ∷ words) all.1)
 
 words_lack : (words : List (List ℕ)) → AllByRecursion IsWord words → AllByRecursion (Lacks 32) words
 words_lack [] all = tt
@@ -71,8 +72,16 @@ order_is_word = (omega arith, (omega arith, (omega arith, (omega arith, (omega a
 
 setting_words_are_words : (s : Parameters) → IsValid s → AllByRecursion IsWord (setting_words s)
 setting_words_are_words s valid =
-    let small = narrow s valid in
-    (setting_is_word, (decimals_are_words s.n (omega (arith, small.0)), (decimals_are_words s.f (omega (arith, small.1)), (decimals_are_words s.p (omega (arith, small.2)), (decimals_are_words s.q (omega (arith, small.3)), tt)))))
+    let small = narrow s valid in (
+      setting_is_word,
+      (
+        decimals_are_words s.n (omega (arith, small.0)),
+        (
+          decimals_are_words s.f (omega (arith, small.1)),
+          (decimals_are_words s.p (omega (arith, small.2)), (decimals_are_words s.q (omega (arith, small.3)), tt)),
+        ),
+      ),
+    )
 
 parameters_are_read : (s : Parameters) → IsValid s → parameters_in (setting_words s) ≡ Some s
 parameters_are_read s valid =
@@ -82,9 +91,11 @@ parameters_are_read s valid =
 setting_is_read : (s : Parameters) → IsValid s → setting_in (line_of (setting_words s)) ≡ Ok s
 setting_is_read s valid =
     let words = setting_words_are_words s valid in
-    rw (words_are_read (codes "setting") (decimal s.n ∷ decimal s.f ∷ decimal s.p ∷ decimal s.q ∷ []) words.0 words.1, parameters_are_read s valid) (valid_settled s valid)
+    rw (words_are_read (codes "setting") (decimal s.n ∷ decimal s.f ∷ decimal s.p ∷ decimal s.q ∷ []) words.0 words.1, parameters_are_read s valid)
+    (valid_settled s valid)
 
-numbers_are_spelled : (n f p q : List ℕ) (s : Parameters) → numbers_of n f p q ≡ Some s → (n ≡ decimal s.n) × (f ≡ decimal s.f) × (p ≡ decimal s.p) × (q ≡ decimal s.q)
+numbers_are_spelled : (n f p q : List ℕ) (s : Parameters) → numbers_of n f p q ≡ Some s
+    → (n ≡ decimal s.n) × (f ≡ decimal s.f) × (p ≡ decimal s.p) × (q ≡ decimal s.q)
 numbers_are_spelled n f p q s is =
     option_and_then_some _ (number_of_text n) s is (λ a an more.
     option_and_then_some _ (number_of_text f) s more (λ b bn more.
@@ -116,8 +127,11 @@ parameters_are_spelled (w ∷ n ∷ f ∷ p ∷ q ∷ r ∷ rest) s is = absurd 
 setting_is_spelled : (line : List ℕ) (s : Parameters) → setting_in line ≡ Ok s → IsValid s × (line ≡ line_of (setting_words s))
 setting_is_spelled line s is =
     let (t, found, valid) = read_first _ (λ t. settled (setting_of t)) s is in
-    let (same, holds) = settled_valid t s valid in
-    (holds, line_is_spelled line (setting_words s) (subst (λ (x : Parameters). words_in line ≡ setting_words x) same (parameters_are_spelled (words_in line) t (formed 1 _ t found))))
+    let (same, holds) = settled_valid t s valid in (
+      holds,
+      line_is_spelled line (setting_words s)
+          (subst (λ (x : Parameters). words_in line ≡ setting_words x) same (parameters_are_spelled (words_in line) t (formed 1 _ t found))),
+    )
 
 -- The line of a local order.
 
@@ -129,11 +143,17 @@ txs_are_read : (before txs : List Tx) → AllByRecursion FitsTx txs → length b
 txs_are_read before [] fits short = rw append-nil refl
 txs_are_read before (t ∷ ts) fits short =
     rw (lt-ltb (length before) 128 (omega (arith, short)), tx_of_text-text t fits.0)
-    (txs_are_read (before ++ t ∷ []) ts fits.1 (omega (arith, short, length-append before (t ∷ []))) ∙ ap (λ (x : List Tx). Some x) (append_assoc before (t ∷ []) ts))
+    (txs_are_read (before ++ t ∷ []) ts fits.1 (omega (arith, short, length-append before (t ∷ [])))
+    ∙ ap (λ (x : List Tx). Some x) (append_assoc before (t ∷ []) ts))
 
 order_is_read : (number : ℕ) (txs : List Tx) → IsLocalOrder txs → order_in number (line_of (order_words txs)) ≡ Ok txs
 order_is_read number txs is =
-    rw (words_are_read (codes "order") (map tx_text txs) order_is_word (order_words_are_words txs is.fits), txs_are_read [] txs is.fits (omega (arith, is.short)), distinct_tested txs is.distinct) refl
+    rw (
+      words_are_read (codes "order") (map tx_text txs) order_is_word (order_words_are_words txs is.fits),
+      txs_are_read [] txs is.fits (omega (arith, is.short)),
+      distinct_tested txs is.distinct,
+    )
+    refl
 
 txs_are_spelled : (words : List (List ℕ)) (before txs : List Tx) → length before ≤ 128 → txs_after before words ≡ Some txs
     → (ts : List Tx) × (txs ≡ before ++ ts) × (words ≡ map tx_text ts) × AllByRecursion FitsTx ts × (length txs ≤ 128)
@@ -144,8 +164,13 @@ txs_are_spelled (word ∷ words) before txs short is =
     option_and_then_some _ (next_tx (length before) word) txs is (λ t found more.
     let (few, read) = room (length before) word t found in
     let here : FitsTx t × (word ≡ tx_text t) = rw read at (text_of_tx word) in
-    let (ts, same, spelled, fits, all) = txs_are_spelled words (before ++ t ∷ []) txs (omega (arith, few, length-append before (t ∷ []))) more in
-    (t ∷ ts, same ∙ append_assoc before (t ∷ []) ts, ap (λ (w : List ℕ). w ∷ words) here.1 ∙ ap (λ (ws : List (List ℕ)). tx_text t ∷ ws) spelled, (here.0, fits), all))
+    let (ts, same, spelled, fits, all) = txs_are_spelled words (before ++ t ∷ []) txs (omega (arith, few, length-append before (t ∷ []))) more in (
+      t ∷ ts,
+      same ∙ append_assoc before (t ∷ []) ts,
+      ap (λ (w : List ℕ). w ∷ words) here.1 ∙ ap (λ (ws : List (List ℕ)). tx_text t ∷ ws) spelled,
+      (here.0, fits),
+      all,
+    ))
   where
     room : (count : ℕ) (word : List ℕ) (t : Tx) → next_tx count word ≡ Some t → (count < 128) × (tx_of_text word ≡ Some t)
     room count word t found =
@@ -160,8 +185,11 @@ txs_in_words (word ∷ words) txs is =
     elim (cases_Bool (bytes_eq word (codes "order"))) [
       | inl so ↦
           let (ts, same, spelled, fits, short) = txs_are_spelled words [] txs (omega arith) (rw so at is) in
-          let first : word ≡ codes "order" = (bytes_eq-Decides word (codes "order")).0 so in
-          (ap (λ (w : List ℕ). w ∷ words) first ∙ ap (λ (ws : List (List ℕ)). codes "order" ∷ ws) (spelled ∙ ap (map tx_text) (sym same)), subst (AllByRecursion FitsTx) (sym same) fits, short)
+          let first : word ≡ codes "order" = (bytes_eq-Decides word (codes "order")).0 so in (
+            ap (λ (w : List ℕ). w ∷ words) first ∙ ap (λ (ws : List (List ℕ)). codes "order" ∷ ws) (spelled ∙ ap (map tx_text) (sym same)),
+            subst (AllByRecursion FitsTx) (sym same) fits,
+            short,
+          )
       | inr not_so ↦ let wrong = rw not_so at is in absurd (cc)
     ]
 
@@ -196,7 +224,8 @@ nothing_after number x y [] is = (refl, cc)
 nothing_after number x y (b ∷ bs) is = absurd (cc)
 
 lists_are_spelled : (left number : ℕ) (before : List (List Tx)) (text : List ℕ) (lists : List (List Tx)) → lists_after left number before text ≡ Ok lists
-    → (ls : List (List Tx)) × (lists ≡ before ++ ls) × (length ls ≡ left) × (text ≡ text_of (map (λ txs. line_of (order_words txs)) ls)) × AllByRecursion IsLocalOrder ls
+    → (ls : List (List Tx)) × (lists ≡ before ++ ls) × (length ls ≡ left) × (text ≡ text_of (map (λ txs. line_of (order_words txs)) ls))
+    × AllByRecursion IsLocalOrder ls
 lists_are_spelled zero number before text lists is =
     let (none, same) = nothing_after number before lists text is in
     ([], sym same ∙ sym (append-nil before), refl, none, tt)
@@ -220,7 +249,8 @@ lists_are_spelled (suc left) number before text lists is =
 first_line : (number : ℕ) (line : List ℕ) (lines : List (List ℕ)) → Lacks 10 line → line_at number (text_of (line ∷ lines)) ≡ Ok (line, text_of lines)
 first_line number line lines lacks = ap (line_at number) (append_assoc line (10 ∷ []) (text_of lines)) ∙ line_is_read number line (text_of lines) lacks
 
-read_by_parts : (text line rest : List ℕ) (s : Parameters) (lists : List (List Tx)) → line_at 1 text ≡ Ok (line, rest) → setting_in line ≡ Ok s → lists_after (quorum_of s) 2 [] rest ≡ Ok lists
+read_by_parts : (text line rest : List ℕ) (s : Parameters) (lists : List (List Tx)) → line_at 1 text ≡ Ok (line, rest)
+    → setting_in line ≡ Ok s → lists_after (quorum_of s) 2 [] rest ≡ Ok lists
     → read_orders text ≡ Ok (make_order_text s lists)
 unfolding read_orders
 read_by_parts text line rest s lists first setting following = rw (first, setting, following) refl
@@ -233,7 +263,8 @@ spelled_is_read s lists are =
     (setting_is_read s are.setting)
     (ap (λ (k : ℕ). lists_after k 2 [] (text_of lines)) (sym are.quorum) ∙ lists_are_read 2 [] lists are.each)
 
-pub read_is_spelled : (text : List ℕ) (orders : OrderText) → read_orders text ≡ Ok orders → AreOrders orders.setting orders.lists × (text ≡ order_text_of orders.setting orders.lists)
+pub read_is_spelled : (text : List ℕ) (orders : OrderText) → read_orders text ≡ Ok orders
+    → AreOrders orders.setting orders.lists × (text ≡ order_text_of orders.setting orders.lists)
 unfolding read_orders
 read_is_spelled text orders is =
     let (found, line, more) = read_first (line_at 1 text) _ orders is in

@@ -29,7 +29,8 @@ value_of_decimal : (n : ℕ) → n < 2 ^ 64 → digits_value 10 (decimal n) ≡ 
 value_of_decimal n small = (decimal_is_IsNumeral n small).1
 
 -- a transaction is its three numbers
-parts_of_tx : (t : Tx) (client number payload : ℕ) → client ≡ t.client → number ≡ t.number → payload ≡ t.payload → record { client = client; number = number; payload = payload } ≡ t
+parts_of_tx : (t : Tx) (client number payload : ℕ) → client ≡ t.client → number ≡ t.number → payload ≡ t.payload
+    → record { client = client; number = number; payload = payload } ≡ t
 parts_of_tx t client number payload a b c = rw (a, b, c)
 
 -- the numbers in the text of a transaction are the transaction's

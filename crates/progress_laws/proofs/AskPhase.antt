@@ -69,8 +69,10 @@ module _ (course : Course) (rests : Rests course) where
     draws_so : turn_of course.fits (course.gives i) st (Deliver e.from e.bytes) ≡ drawing
     draws_so =
         ap (λ (r : Result MessageView WireFault). delivered course.fits (course.gives i) st e.from r) a.read
-        ∙ ap (λ (y : State). on_ask course.fits (course.gives i) y e.from asked_call) h.opens.is ∙ ap (λ (y : ℕ). on_ask course.fits (course.gives i) (at i h.opens.rest h.opens.made h.opens.capacity) y asked_call) a.from
-        ∙ draws course.fits (course.gives i) s course.plan.views i (course.lists i) [] no_chain 1 from_one one_view L asked_call (is_call course i 2 L a.seal a.seal_fits) refl h.opens.rest h.opens.made h.opens.capacity
+        ∙ ap (λ (y : State). on_ask course.fits (course.gives i) y e.from asked_call) h.opens.is
+        ∙ ap (λ (y : ℕ). on_ask course.fits (course.gives i) (at i h.opens.rest h.opens.made h.opens.capacity) y asked_call) a.from
+        ∙ draws course.fits (course.gives i) s course.plan.views i (course.lists i) [] no_chain 1 from_one one_view L asked_call
+        (is_call course i 2 L a.seal a.seal_fits) refl h.opens.rest h.opens.made h.opens.capacity
         (let is : h.opens.rest.high.view ≡ 0 = ap (λ (x : Cert). x.view) h.opens.high in omega (arith, is))
         (let is : h.opens.rest.ordered ≡ 0 = h.opens.ordered_is in omega (arith, is))
         (let m : h.opens.made ≤ 2 = h.opens.few_made in let c : 20 ≤ h.opens.capacity = h.opens.room in omega (arith, m, c))
@@ -115,19 +117,24 @@ module _ (course : Course) (rests : Rests course) where
           from = refl;
           to = refl;
           sealed = own_sealed;
-          read = rests.reads (sent.Order own_sealed) (order_written course.fits s course.lists (Sealed course) [] rests.small rests.proper (omega arith) own_sealed own_good);
+          read = rests.reads (sent.Order own_sealed)
+              (order_written course.fits s course.lists (Sealed course) [] rests.small rests.proper (omega arith) own_sealed own_good);
           own = refl;
           good = own_good;
         };
       }
 
-  ask_turn : (i : ℕ) (e : Envelope) (st : State) (o : Outcome) → i < s.n → Asks course i e → Asked course 0 0 2 i st → o ≡ turn_of course.fits (course.gives i) st (Deliver e.from e.bytes) → Has course i (Deliver e.from e.bytes) o.reported
+  ask_turn : (i : ℕ) (e : Envelope) (st : State) (o : Outcome) → i < s.n → Asks course i e → Asked course 0 0 2 i st
+      → o ≡ turn_of course.fits (course.gives i) st (Deliver e.from e.bytes) → Has course i (Deliver e.from e.bytes) o.reported
       → OutTurn course (Asked course 0 0 2) (Asked course 1 0 3) (Asks course) (Orders course) i e o
   ask_turn i e st o below a h is happened =
-      subst (λ (x : Outcome). Has course i (Deliver e.from e.bytes) x.reported → OutTurn course (Asked course 0 0 2) (Asked course 1 0 3) (Asks course) (Orders course) i e x)
+      subst (λ (x : Outcome). Has course i (Deliver e.from e.bytes) x.reported
+      → OutTurn course (Asked course 0 0 2) (Asked course 1 0 3) (Asks course) (Orders course) i e x)
       (sym (is ∙ draws_so i below e st a h)) (draw_turn i below e st a h) happened
 
   -- All are asked and send their orders.
-  pub ask_phase : (steps last : ℕ) → last ≤ 10 * s.n → ((v : World) → Going course (Asked course 1 0 3) v → Queue (Orders course) 0 s.n v.queue → v.turns ≡ last → Ends course steps v)
+  pub ask_phase : (steps last : ℕ) → last ≤ 10 * s.n
+      → ((v : World) → Going course (Asked course 1 0 3) v → Queue (Orders course) 0 s.n v.queue → v.turns ≡ last → Ends course steps v)
       → (w : World) → Going course (Asked course 0 0 2) w → Queue (Asks course) 0 s.n w.queue → w.turns + s.n ≡ last → Ends course (up s.n steps) w
-  ask_phase steps last few next = fan_out course (Asked course 0 0 2) (Asked course 1 0 3) (Asks course) (Orders course) (λ i e a. a.to_is) ask_turn steps last few next
+  ask_phase steps last few next =
+      fan_out course (Asked course 0 0 2) (Asked course 1 0 3) (Asks course) (Orders course) (λ i e a. a.to_is) ask_turn steps last few next

@@ -66,7 +66,8 @@ module _ (course : Course) (rests : Rests course) where
     call_turn_is : (x : State) → st ≡ x → turn_of course.fits (course.gives L) st (Deliver e.from e.bytes) ≡ on_new_view course.fits (course.gives L) x k call
     call_turn_is x is =
         ap (λ (r : Result MessageView WireFault). delivered course.fits (course.gives L) st e.from r) c.read
-        ∙ ap (λ (y : State). on_new_view course.fits (course.gives L) y e.from call) is ∙ ap (λ (y : ℕ). on_new_view course.fits (course.gives L) x y call) c.from
+        ∙ ap (λ (y : State). on_new_view course.fits (course.gives L) y e.from call) is
+        ∙ ap (λ (y : ℕ). on_new_view course.fits (course.gives L) x y call) c.from
 
     abbrev this : IsCall course.fits (course.gives L) s course.plan.views L (course.lists L) [] no_chain 1 k 1 call
     this = is_call course L 1 k c.seal c.seal_fits
@@ -75,7 +76,8 @@ module _ (course : Course) (rests : Rests course) where
     call_is_late h following o is =
         let r : Rest = h.opens.rest in
         let same : o ≡ quiet (at L r h.opens.made h.opens.capacity) OldView = is ∙ call_turn_is (at L r h.opens.made h.opens.capacity) h.opens.is
-        ∙ call_late course.fits (course.gives L) s course.plan.views L (course.lists L) [] no_chain 1 from_one one_view k call this refl r h.opens.made h.opens.capacity (h.lead refl).0 in
+        ∙ call_late course.fits (course.gives L) s course.plan.views L
+        (course.lists L) [] no_chain 1 from_one one_view k call this refl r h.opens.made h.opens.capacity (h.lead refl).0 in
         subst (CallTurns k e) (sym same) (record {
           parts = call_parts;
           state = ((λ less. absurd (omega (arith, less, following))), (λ above. subst (Asked course 0 0 2 L) h.opens.is h));
@@ -116,7 +118,8 @@ module _ (course : Course) (rests : Rests course) where
       call_is_kept : suc k < q → (o : Outcome) → o ≡ turn_of course.fits (course.gives L) st (Deliver e.from e.bytes) → CallTurns k e o
       call_is_kept few o is =
           let same : o ≡ quiet (at L rest2 h.opens.made h.opens.capacity) Done = is ∙ call_turn_is (at L rest h.opens.made h.opens.capacity) h.opens.is
-          ∙ call_kept course.fits (course.gives L) s course.plan.views L (course.lists L) [] no_chain 1 from_one one_view k call this refl rest h.opens.made h.opens.capacity high_low not_asked h.calls h.many
+          ∙ call_kept course.fits (course.gives L) s course.plan.views L (course.lists L) [] no_chain 1 from_one one_view k call this refl
+          rest h.opens.made h.opens.capacity high_low not_asked h.calls h.many
           (let m : length rest.gathered ≡ k = h.many in omega (arith, m, few)) in
           subst (CallTurns k e) (sym same) (record {
             parts = call_parts;
@@ -124,7 +127,10 @@ module _ (course : Course) (rests : Rests course) where
               (λ less. record {
                 opens = opens2;
                 calls = calls_more 1 0 rest.gathered k h.calls (let m : length rest.gathered ≡ k = h.many in omega (arith, m));
-                many = (let l : length (rest.gathered ++ record { view = 1; replica = k } ∷ []) ≡ length rest.gathered + 1 = length-append rest.gathered (record { view = 1; replica = k } ∷ []) in let m : length rest.gathered ≡ k = h.many in omega (arith, m, l));
+                many =
+                    (let l : length (rest.gathered ++ record { view = 1; replica = k } ∷ []) ≡ length rest.gathered + 1 =
+                    length-append rest.gathered (record { view = 1; replica = k } ∷ []) in
+                    let m : length rest.gathered ≡ k = h.many in omega (arith, m, l));
               }),
               (λ above. absurd (omega (arith, above, few))),
             );
@@ -141,22 +147,29 @@ module _ (course : Course) (rests : Rests course) where
 
       abbrev asking : Cert → Outcome
       asking c = record {
-        reported = reported (at L (rest3 c) h.opens.made h.opens.capacity) Done (call_spelling ASK L 1 c ∷ []) (to_each (range_with_len 0 s.n) (message_spelling (sent.Ask L 1 c (ask_seal c))));
+        reported = reported (at L (rest3 c) h.opens.made h.opens.capacity) Done (call_spelling ASK L 1 c ∷ [])
+            (to_each (range_with_len 0 s.n) (message_spelling (sent.Ask L 1 c (ask_seal c))));
         state = at L (rest3 c) (h.opens.made + 1) h.opens.capacity;
       }
 
       ask_written : IsWritable (sent.Ask L 1 first_cert (ask_seal first_cert))
       ask_written = (
-        record { named = (let below : L < s.n = rests.leader 1 in let few : s.n ≤ 16 = rests.small in omega (arith, below, few)); sealed = rests.short L h.opens.made (call_spelling ASK L 1 first_cert) (rests.leader 1) },
+        record {
+          named = (let below : L < s.n = rests.leader 1 in let few : s.n ≤ 16 = rests.small in omega (arith, below, few));
+          sealed = rests.short L h.opens.made (call_spelling ASK L 1 first_cert) (rests.leader 1);
+        },
         omega arith,
         first_written,
       )
 
-      call_is_last : suc k ≡ q → (o : Outcome) → o ≡ turn_of course.fits (course.gives L) st (Deliver e.from e.bytes) → Has course L (Deliver e.from e.bytes) o.reported → CallTurns k e o
+      call_is_last : suc k ≡ q → (o : Outcome) → o ≡ turn_of course.fits (course.gives L) st (Deliver e.from e.bytes)
+          → Has course L (Deliver e.from e.bytes) o.reported → CallTurns k e o
       call_is_last now o is happened =
           let same : o ≡ asking first_cert = is ∙ call_turn_is (at L rest h.opens.made h.opens.capacity) h.opens.is
-          ∙ call_last course.fits (course.gives L) s course.plan.views L (course.lists L) [] no_chain 1 from_one one_view k call this refl rest h.opens.made h.opens.capacity high_low not_asked h.calls h.many
-          (let m : length rest.gathered ≡ k = h.many in omega (arith, m, now)) (let m : h.opens.made ≤ 1 = h.opens.few_made in let c : 20 ≤ h.opens.capacity = h.opens.room in omega (arith, m, c))
+          ∙ call_last course.fits (course.gives L) s course.plan.views L (course.lists L) [] no_chain 1 from_one one_view k call this refl
+          rest h.opens.made h.opens.capacity high_low not_asked h.calls h.many
+          (let m : length rest.gathered ≡ k = h.many in omega (arith, m, now))
+          (let m : h.opens.made ≤ 1 = h.opens.few_made in let c : 20 ≤ h.opens.capacity = h.opens.room in omega (arith, m, c))
           ∙ ap asking (higher_first rest.high h.opens.high) in
           subst (λ (x : Outcome). Has course L (Deliver e.from e.bytes) x.reported → CallTurns k e x) (sym same)
           (λ happens. record {
@@ -193,7 +206,9 @@ module _ (course : Course) (rests : Rests course) where
             else = λ other. absurd (other now);
           }) happened
 
-  call_turn : (k : ℕ) (e : Envelope) (st : State) (o : Outcome) → k < s.n → Calls course k e → CallCount k st → o ≡ turn_of course.fits (course.gives L) st (Deliver e.from e.bytes) → Has course L (Deliver e.from e.bytes) o.reported → CallTurns k e o
+  call_turn : (k : ℕ) (e : Envelope) (st : State) (o : Outcome)
+      → k < s.n → Calls course k e → CallCount k st → o ≡ turn_of course.fits (course.gives L) st (Deliver e.from e.bytes)
+      → Has course L (Deliver e.from e.bytes) o.reported → CallTurns k e o
   call_turn k e st o inside b c is happened = by (compared k q)
     where
       by : (suc k < q) ⊎ ((suc k ≡ q) ⊎ (q ≤ k)) → CallTurns k e o
@@ -221,7 +236,8 @@ module _ (course : Course) (rests : Rests course) where
   }
 
   -- All calls are delivered to the leader, which asks.
-  pub call_phase : (steps last : ℕ) → last ≤ 10 * s.n → ((v : World) → Going course (Asked course 0 0 2) v → Queue (Asks course) 0 s.n v.queue → v.turns ≡ last → Ends course steps v)
+  pub call_phase : (steps last : ℕ) → last ≤ 10 * s.n
+      → ((v : World) → Going course (Asked course 0 0 2) v → Queue (Asks course) 0 s.n v.queue → v.turns ≡ last → Ends course steps v)
       → (w : World) → Going course (Called course) w → Queue (Calls course) 0 s.n w.queue → w.turns + s.n ≡ last → Ends course (up s.n steps) w
   call_phase steps last few next w g queue turns =
       fan_in course L (rests.leader 1) q rests.wanted rests.few_wanted (Called course) CallCount (Calls course) (Queue (Asks course) 0 s.n)

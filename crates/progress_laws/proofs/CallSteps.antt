@@ -57,7 +57,11 @@ module _ (fits : Check) (gives : Gives) (s : Parameters) (views me : ℕ) (list 
       → on_tick gives (state_at (standing s views me list bs v rest) made capacity) floor
       ≡ record {
         reported = reported (state_at (standing s views me list bs (v + 1) rest) made capacity) Done (call_spelling NEW_VIEW me (v + 1) rest.high ∷ [])
-            (record { to = leader_of s (v + 1); bytes = message_spelling (messages.NewView me (v + 1) rest.high (gives made (call_spelling NEW_VIEW me (v + 1) rest.high))) } ∷ []);
+            (record {
+              to = leader_of s (v + 1);
+              bytes = message_spelling (messages.NewView me (v + 1) rest.high (gives made (call_spelling NEW_VIEW me (v + 1) rest.high)));
+            }
+            ∷ []);
         state = state_at (standing s views me list bs (v + 1) rest) (made + 1) capacity;
       }
   unfolding on_tick
@@ -84,7 +88,8 @@ module _ (fits : Check) (gives : Gives) (s : Parameters) (views me : ℕ) (list 
 
     module _ (replica : ℕ) (call : Call) (is : IsCall 1 replica v call) (leads : leader_of s v ≡ me) where
       -- A call after the quorum has no effect.
-      pub call_late : (rest : Rest) (made capacity : ℕ) → rest.asked ≡ v → on_new_view fits gives (state_at (before rest) made capacity) replica call ≡ quiet (state_at (before rest) made capacity) OldView
+      pub call_late : (rest : Rest) (made capacity : ℕ) → rest.asked ≡ v
+          → on_new_view fits gives (state_at (before rest) made capacity) replica call ≡ quiet (state_at (before rest) made capacity) OldView
       call_late rest made capacity asked = rw (late)
         where
           late : new_view_reason fits (before rest) replica call ≡ OldView
@@ -97,7 +102,8 @@ module _ (fits : Check) (gives : Gives) (s : Parameters) (views me : ℕ) (list 
             or_right (nat_le call.view rest.high.view) (nat_le call.view rest.asked) (le_yes call.view rest.asked (omega (arith, is.view, asked))),
           )
 
-      in_time : (rest : Rest) → rest.high.view < v → rest.asked < v → AreCalls v 0 rest.gathered → length rest.gathered ≤ replica → new_view_reason fits (before rest) replica call ≡ Done
+      in_time : (rest : Rest) → rest.high.view < v → rest.asked < v → AreCalls v 0 rest.gathered → length rest.gathered ≤ replica
+          → new_view_reason fits (before rest) replica call ≡ Done
       in_time rest high asked calls few = passes_all (new_view_rows fits (before rest) replica call) (
         not_from_true _ (eq_yes call.replica replica is.own),
         (
@@ -105,11 +111,14 @@ module _ (fits : Check) (gives : Gives) (s : Parameters) (views me : ℕ) (list 
           (
             not_from_true _ (eq_yes _ me (ap (leader_of s) is.view ∙ leads)),
             (
-              or_from _ _ (lt_no call.view v (omega (arith, is.view))) (or_from _ _ (le_no call.view rest.high.view (omega (arith, is.view, high))) (le_no call.view rest.asked (omega (arith, is.view, asked)))),
+              or_from _ _ (lt_no call.view v (omega (arith, is.view)))
+                  (or_from _ _ (le_no call.view rest.high.view (omega (arith, is.view, high)))
+                  (le_no call.view rest.asked (omega (arith, is.view, asked)))),
               (
                 not_from_true _ is.seal_fits,
                 (
-                  no_bad s views me list bs chain fits (before rest) call.cert call.view refl refl (omega (arith, is.view, is.below)) is.stored is.block is.good,
+                  no_bad s views me list bs chain fits (before rest) call.cert call.view refl refl
+                      (omega (arith, is.view, is.below)) is.stored is.block is.good,
                   (
                     not_from_true _ (rw is.block (is_stored_at bs chain call.cert.view is.stored)),
                     (
@@ -135,16 +144,19 @@ module _ (fits : Check) (gives : Gives) (s : Parameters) (views me : ℕ) (list 
 
       many : (rest : Rest) → AreCalls v 0 rest.gathered → length rest.gathered ≡ replica → callers_of (after_call rest).gathered v ≡ length rest.gathered + 1
       many rest calls turn =
-          callers_are v 0 (after_call rest).gathered (calls_more v 0 rest.gathered replica calls (omega (arith, turn))) ∙ length-append rest.gathered (record { view = v; replica = replica } ∷ [])
+          callers_are v 0 (after_call rest).gathered (calls_more v 0 rest.gathered replica calls (omega (arith, turn)))
+          ∙ length-append rest.gathered (record { view = v; replica = replica } ∷ [])
 
       -- A call that does not complete the quorum is stored.
-      pub call_kept : (rest : Rest) (made capacity : ℕ) → rest.high.view ≤ call.cert.view → rest.asked < v → AreCalls v 0 rest.gathered → length rest.gathered ≡ replica
+      pub call_kept : (rest : Rest) (made capacity : ℕ) → rest.high.view ≤ call.cert.view → rest.asked < v → AreCalls v 0 rest.gathered
+          → length rest.gathered ≡ replica
           → length rest.gathered + 1 < quorum_of s
           → on_new_view fits gives (state_at (before rest) made capacity) replica call ≡ quiet (state_at (before (after_call rest)) made capacity) Done
       unfolding new_view_done
       call_kept rest made capacity high asked calls turn few =
           rw (in_time rest (omega (arith, high, is.below)) asked calls (omega (arith, turn)))
-          (ap (λ (k : Known). if nat_eq (callers_of k.gathered call.view) (quorum_of k.setting) then asks gives (state_at (asked_for call.view k) made capacity) else quiet (state_at k made capacity) Done)
+          (ap (λ (k : Known). if nat_eq (callers_of k.gathered call.view) (quorum_of k.setting)
+          then asks gives (state_at (asked_for call.view k) made capacity) else quiet (state_at k made capacity) Done)
           (joins rest high)
           ∙ rw (is.view, many rest calls turn, eq_no (length rest.gathered + 1) (quorum_of s) (λ same. omega (arith, same, few))))
 
@@ -152,18 +164,21 @@ module _ (fits : Check) (gives : Gives) (s : Parameters) (views me : ℕ) (list 
       after_asking rest = record (after_call rest) { asked = v; ask_cert = higher rest.high call.cert; orders = [] }
 
       -- The call that completes the quorum: the leader asks.
-      pub call_last : (rest : Rest) (made capacity : ℕ) → rest.high.view ≤ call.cert.view → rest.asked < v → AreCalls v 0 rest.gathered → length rest.gathered ≡ replica
+      pub call_last : (rest : Rest) (made capacity : ℕ) → rest.high.view ≤ call.cert.view → rest.asked < v → AreCalls v 0 rest.gathered
+          → length rest.gathered ≡ replica
           → length rest.gathered + 1 ≡ quorum_of s → made < capacity
           → on_new_view fits gives (state_at (before rest) made capacity) replica call
           ≡ record {
             reported = reported (state_at (before (after_asking rest)) made capacity) Done (call_spelling ASK me v (higher rest.high call.cert) ∷ [])
-                (to_each (range_with_len 0 s.n) (message_spelling (messages.Ask me v (higher rest.high call.cert) (gives made (call_spelling ASK me v (higher rest.high call.cert))))));
+                (to_each (range_with_len 0 s.n)
+                (message_spelling (messages.Ask me v (higher rest.high call.cert) (gives made (call_spelling ASK me v (higher rest.high call.cert))))));
             state = state_at (before (after_asking rest)) (made + 1) capacity;
           }
       unfolding new_view_done
       call_last rest made capacity high asked calls turn all room =
           rw (in_time rest (omega (arith, high, is.below)) asked calls (omega (arith, turn)))
-          (ap (λ (k : Known). if nat_eq (callers_of k.gathered call.view) (quorum_of k.setting) then asks gives (state_at (asked_for call.view k) made capacity) else quiet (state_at k made capacity) Done)
+          (ap (λ (k : Known). if nat_eq (callers_of k.gathered call.view) (quorum_of k.setting)
+          then asks gives (state_at (asked_for call.view k) made capacity) else quiet (state_at k made capacity) Done)
           (joins rest high)
           ∙ rw (is.view, many rest calls turn, eq_yes (length rest.gathered + 1) (quorum_of s) all, eq_no made capacity (λ same. omega (arith, same, room))))
 
@@ -180,7 +195,8 @@ module _ (fits : Check) (gives : Gives) (s : Parameters) (views me : ℕ) (list 
               (
                 not_from_true _ is.seal_fits,
                 (
-                  no_bad s views me list bs chain fits (before rest) call.cert call.view refl refl (omega (arith, is.view, is.below)) is.stored is.block is.good,
+                  no_bad s views me list bs chain fits (before rest) call.cert call.view refl refl
+                      (omega (arith, is.view, is.below)) is.stored is.block is.good,
                   (
                     not_from_true _ (rw is.block (is_stored_at bs chain call.cert.view is.stored)),
                     (
@@ -205,13 +221,18 @@ module _ (fits : Check) (gives : Gives) (s : Parameters) (views me : ℕ) (list 
             reported = reported (state_at (before (after_drawing rest)) made capacity) Done (order_spelling (order_over s me v list bs call.cert.block) ∷ [])
                 (record {
                   to = leader;
-                  bytes = message_spelling (messages.Order (record { order = order_over s me v list bs call.cert.block; seal = gives made (order_spelling (order_over s me v list bs call.cert.block)) }));
+                  bytes = message_spelling (messages.Order
+                      (record {
+                        order = order_over s me v list bs call.cert.block;
+                        seal = gives made (order_spelling (order_over s me v list bs call.cert.block));
+                      }));
                 } ∷ []);
             state = state_at (before (after_drawing rest)) (made + 1) capacity;
           }
       unfolding ask_done
       draws rest made capacity high ordered room =
           rw (to_be_drawn rest (omega (arith, high, is.below)) ordered)
-          (ap (λ (k : Known). sealed_to gives (state_at (ordering call.view k) made capacity) (order_spelling (order_of_view (ordering call.view k) call.view call.cert.block)) (leader ∷ []))
+          (ap (λ (k : Known). sealed_to gives (state_at (ordering call.view k) made capacity)
+          (order_spelling (order_of_view (ordering call.view k) call.view call.cert.block)) (leader ∷ []))
           (sees s views me list bs chain v rest call.cert (omega (arith, is.below)) is.stored is.block high)
           ∙ rw (is.view, eq_no made capacity (λ same. omega (arith, same, room))))

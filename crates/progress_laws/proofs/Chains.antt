@@ -19,7 +19,8 @@ use Rattle.agreement_laws.proofs.Digests.{false_other, same_true, true_same}
 -- ---- lists
 
 -- the one item that passes is found
-find_only : {X : Type 0} (p : X → Bool) (xs : List X) (k : ℕ) (x : X) → slice_get xs k ≡ Some x → p x ≡ true → ((j : ℕ) (y : X) → slice_get xs j ≡ Some y → p y ≡ true → j ≡ k) → find p xs ≡ Some x
+find_only : {X : Type 0} (p : X → Bool) (xs : List X) (k : ℕ) (x : X) → slice_get xs k ≡ Some x → p x ≡ true
+    → ((j : ℕ) (y : X) → slice_get xs j ≡ Some y → p y ≡ true → j ≡ k) → find p xs ≡ Some x
 find_only p [] k x found is only = absurd (cc)
 find_only p (y ∷ xs) zero x found is only =
     let same : y ≡ x = same_Some y x found in
@@ -114,7 +115,8 @@ module _ (bs : List Block) (chain : IsChain bs) where
   seen_is k h voted low inside = rw (lock_is k h low inside voted, commit_is k h low inside voted)
 
   -- a block of the next view may be voted for
-  pub is_safe_next : (h voted : ℕ) (b : Block) → h ≤ length bs → b.cert.view ≡ length bs → b.cert.block ≡ digest_at bs (length bs) → is_safe bs (safe bs voted h) b ≡ true
+  pub is_safe_next : (h voted : ℕ) (b : Block) → h ≤ length bs → b.cert.view ≡ length bs → b.cert.block ≡ digest_at bs (length bs)
+      → is_safe bs (safe bs voted h) b ≡ true
   is_safe_next h voted b low view block = by (length bs) refl (nat_lt (view_at bs (digest_at bs (pred h))) b.cert.view) refl
     where
       by : (m : ℕ) → length bs ≡ m → (t : Bool) → nat_lt (view_at bs (digest_at bs (pred h))) b.cert.view ≡ t → is_safe bs (safe bs voted h) b ≡ true
@@ -164,6 +166,8 @@ module _ (bs : List Block) (b : Block) (next : IsNext bs b) where
         (λ is same. rw (← same, is) (next.parent ∙ sym (digest_stays (length bs) (omega arith))));
     above = λ k x at. get_more bs b x k (block_digest x ≢ first_digest) at (chain.above k x) (λ is same. rw (← same) next.above);
     apart = λ j k x y at_x at_y same. get_more bs b x j (j ≡ k) at_x
-        (λ old_x. get_more bs b y k (j ≡ k) at_y (λ old_y. chain.apart j k x y old_x old_y same) (λ is is_y. absurd (next.apart j x old_x (same ∙ ap block_digest (sym is_y)))))
-        (λ is is_x. get_more bs b y k (j ≡ k) at_y (λ old_y. absurd (next.apart k y old_y (sym same ∙ ap block_digest (sym is_x)))) (λ other is_y. is ∙ sym other));
+        (λ old_x. get_more bs b y k (j ≡ k) at_y (λ old_y. chain.apart j k x y old_x old_y same)
+        (λ is is_y. absurd (next.apart j x old_x (same ∙ ap block_digest (sym is_y)))))
+        (λ is is_x. get_more bs b y k (j ≡ k) at_y (λ old_y. absurd (next.apart k y old_y (sym same ∙ ap block_digest (sym is_x))))
+        (λ other is_y. is ∙ sym other));
   }

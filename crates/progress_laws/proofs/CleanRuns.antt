@@ -116,13 +116,15 @@ module _ (laws : Laws) (setup : Setup) (F : World) (is_F : run_for setup.fits se
   unfolding record_of
   received b c = by c.event c.brings c.happened.entry
     where
-      by : (e : Event) → option_and_then block_in (message_in e) ≡ Some b → slice_get c.happened.replica.journal c.happened.place ≡ Some (record { event = e; turned = c.reported })
+      by : (e : Event) → option_and_then block_in (message_in e) ≡ Some b
+          → slice_get c.happened.replica.journal c.happened.place ≡ Some (record { event = e; turned = c.reported })
           → IsReceived run (record { receiver = c.receiver; entry = c.happened.place; block = b })
       by (Arrived list) brings entry = absurd (cc)
       by (Tick floor) brings entry = absurd (cc)
       by (Deliver from bytes) brings entry = read (read_of bytes) refl brings
         where
-          read : (r : Result MessageView WireFault) → read_of bytes ≡ r → option_and_then block_in (result_ok r) ≡ Some b → IsReceived run (record { receiver = c.receiver; entry = c.happened.place; block = b })
+          read : (r : Result MessageView WireFault) → read_of bytes ≡ r → option_and_then block_in (result_ok r) ≡ Some b
+              → IsReceived run (record { receiver = c.receiver; entry = c.happened.place; block = b })
           read (Err fault) is none = absurd (cc)
           read (Ok m) is block = record {
             entry = record { event = Deliver from bytes; turned = c.reported };
@@ -153,7 +155,8 @@ module _ (laws : Laws) (setup : Setup) (F : World) (is_F : run_for setup.fits se
     leader = λ v. mod-lt v (setup.valid.replicas.some);
     views = setup.clean.views;
     above = λ b c same. distinguished.1 (record { receiver = c.receiver; entry = c.happened.place; block = b }) (received b c) same;
-    apart = λ a b c d same. distinguished.0 (record { receiver = c.receiver; entry = c.happened.place; block = a }) (record { receiver = d.receiver; entry = d.happened.place; block = b }) (received a c) (received b d) same;
+    apart = λ a b c d same. distinguished.0 (record { receiver = c.receiver; entry = c.happened.place; block = a })
+        (record { receiver = d.receiver; entry = d.happened.place; block = b }) (received a c) (received b d) same;
   }
 
   -- ---- the start
@@ -165,10 +168,12 @@ module _ (laws : Laws) (setup : Setup) (F : World) (is_F : run_for setup.fits se
   clear_links : (from : ℕ) → AreClear s.n (map (opening setup.plan.links from) (range_with_len 0 s.n))
   clear_links from = record {
     count = length-map (range_with_len 0 s.n) (opening setup.plan.links from) ∙ length-range_with_len 0 s.n;
-    each = λ k link found. (let (to, place, is) = got_map (opening setup.plan.links from) (range_with_len 0 s.n) k link found in subst IsClear is (clear_opening from to));
+    each = λ k link found. (let (to, place, is) = got_map (opening setup.plan.links from) (range_with_len 0 s.n) k link found in
+        subst IsClear is (clear_opening from to));
   }
 
-  fresh_one : (i : ℕ) (x : Signer) → slice_get setup.sealers i ≡ Some x → IsSealerOf setup.fits i x → Base course i (fresh_replica setup.plan x) × HasHad course 0 i (fresh_replica setup.plan x)
+  fresh_one : (i : ℕ) (x : Signer) → slice_get setup.sealers i ≡ Some x → IsSealerOf setup.fits i x
+      → Base course i (fresh_replica setup.plan x) × HasHad course 0 i (fresh_replica setup.plan x)
   unfolding feed_of
   fresh_one i x found is = (
     record {
@@ -183,7 +188,8 @@ module _ (laws : Laws) (setup : Setup) (F : World) (is_F : run_for setup.fits se
         ap (feed_of setup.plan) is.own,
         record {
           capacity = x.capacity;
-          is = ap (λ (y : ℕ). state_at (standing s setup.plan.views y [] [] 0 rest0) x.made x.capacity) is.own ∙ ap (λ (y : ℕ). state_at (standing s setup.plan.views i [] [] 0 rest0) y x.capacity) is.fresh;
+          is = ap (λ (y : ℕ). state_at (standing s setup.plan.views y [] [] 0 rest0) x.made x.capacity) is.own
+              ∙ ap (λ (y : ℕ). state_at (standing s setup.plan.views i [] [] 0 rest0) y x.capacity) is.fresh;
           room = is.room;
         },
       )),
@@ -243,7 +249,9 @@ module _ (laws : Laws) (setup : Setup) (F : World) (is_F : run_for setup.fits se
       )
 
   steps_are : steps_of setup.plan ≡ suc (ten (suc left))
-  steps_are = (let t : ten (suc left) ≡ suc left + 10 * s.n = ten_is (suc left) in let a : 16 * s.n ≤ setup.plan.turns = setup.clean.turns in let b : 1 ≤ setup.plan.ticks = setup.clean.ticks in omega (arith, t, a, b))
+  steps_are =
+      (let t : ten (suc left) ≡ suc left + 10 * s.n = ten_is (suc left) in let a : 16 * s.n ≤ setup.plan.turns = setup.clean.turns in
+      let b : 1 ≤ setup.plan.ticks = setup.clean.ticks in omega (arith, t, a, b))
 
   some_due : 1 ≤ length course.due → Ends course (ten (suc left)) called → Fine course
   some_due wanted ends = ends (
@@ -270,7 +278,8 @@ module _ (laws : Laws) (setup : Setup) (F : World) (is_F : run_for setup.fits se
     arrivals_are : map (λ (r : Replica). r.feed.txs) F.replicas ≡ map (λ (x : Signer). (feed_of setup.plan x.replica).txs) setup.sealers
     unfolding feed_of
     arrivals_are = same_lists (map (λ (r : Replica). r.feed.txs) F.replicas) (map (λ (x : Signer). (feed_of setup.plan x.replica).txs) setup.sealers)
-        (length-map F.replicas (λ (r : Replica). r.feed.txs) ∙ fine.count ∙ sym setup.made.count ∙ sym (length-map setup.sealers (λ (x : Signer). (feed_of setup.plan x.replica).txs)))
+        (length-map F.replicas (λ (r : Replica). r.feed.txs) ∙ fine.count ∙ sym setup.made.count
+        ∙ sym (length-map setup.sealers (λ (x : Signer). (feed_of setup.plan x.replica).txs)))
         (λ k a b at_a at_b.
         let (r, at_r, is_a) = got_map (λ (r : Replica). r.feed.txs) F.replicas k a at_a in
         let (x, at_x, is_b) = got_map (λ (x : Signer). (feed_of setup.plan x.replica).txs) setup.sealers k b at_b in

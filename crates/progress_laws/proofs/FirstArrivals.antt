@@ -41,4 +41,5 @@ pub arrives_at_once : (plan : Plan) (r : ℕ) → All (λ a. a.turn ≡ 0) plan.
 unfolding arrivals_for
 arrives_at_once plan r all =
     All-append IsFirst (at_turn 0 (clients_for plan.clients r)) (arrivals_for plan.arrivals r) (all_at 0 refl (clients_for plan.clients r))
-    (timed_first (arrivals_at plan.arrivals r) (sorted_early [] (filter (λ a. a.replica == r) plan.arrivals) (All-nil IsEarly) (All-filter (λ a. a.replica == r) IsEarly plan.arrivals all)))
+    (timed_first (arrivals_at plan.arrivals r)
+    (sorted_early [] (filter (λ a. a.replica == r) plan.arrivals) (All-nil IsEarly) (All-filter (λ a. a.replica == r) IsEarly plan.arrivals all)))

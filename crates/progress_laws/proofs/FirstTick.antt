@@ -74,7 +74,8 @@ module _ (course : Course) where
 
   -- the world after the ticks
   abbrev pub after_ticks : World → World
-  after_ticks w = tick_all course.fits course.plan (record (give_arrivals course.fits course.plan w) { ticks = (give_arrivals course.fits course.plan w).ticks + 1 })
+  after_ticks w = tick_all course.fits course.plan
+      (record (give_arrivals course.fits course.plan w) { ticks = (give_arrivals course.fits course.plan w).ticks + 1 })
 
   no_view : (v : World) → Grounds course (HasHad course s.n) 0 v → (at : ℕ) → replica_view v at ≡ 0
   no_view v g at = by (slice_get v.replicas at) refl
@@ -105,7 +106,8 @@ module _ (course : Course) where
     abbrev HasTicked : ℕ → ℕ → Replica → Type 0
     HasTicked k i r = (r.feed.left ≡ []) × (i < k → HasCalled i r.state) × (k ≤ i → Fresh course (course.lists i) i r.state)
 
-    module _ (w : World) (k : ℕ) (inside : k < s.n) (g : Grounds course (HasTicked k) 1 w) (queue : Queue OnWay 0 k w.queue) (grew : Grew (event_at course.fits course.plan w k (Tick 0)) course.last) where
+    module _ (w : World) (k : ℕ) (inside : k < s.n) (g : Grounds course (HasTicked k) 1 w) (queue : Queue OnWay 0 k w.queue)
+        (grew : Grew (event_at course.fits course.plan w k (Tick 0)) course.last) where
       abbrev Ticked : World → Type 0
       Ticked v = Grounds course (HasTicked (suc k)) 1 v × Queue OnWay 0 (suc k) v.queue
 
@@ -121,14 +123,17 @@ module _ (course : Course) where
 
         abbrev called : ℕ → Outcome
         called capacity = record {
-          reported = reported (state_at (standing s course.plan.views k (course.lists k) [] 1 rest0) 0 capacity) Done (call_spelling NEW_VIEW k 1 first_cert ∷ []) (send ∷ []);
+          reported = reported (state_at (standing s course.plan.views k (course.lists k) [] 1 rest0) 0 capacity) Done
+              (call_spelling NEW_VIEW k 1 first_cert ∷ []) (send ∷ []);
           state = state_at (standing s course.plan.views k (course.lists k) [] 1 rest0) 1 capacity;
         }
 
         tick_is : turn_of course.fits r.gives r.state (Tick 0) ≡ called fresh.capacity
         tick_is =
-            ap (λ (gs : Gives). turn_of course.fits gs r.state (Tick 0)) (g.each k r found).0.gives_is ∙ ap (λ (st : State). turn_of course.fits (course.gives k) st (Tick 0)) fresh.is
-            ∙ ticks course.fits (course.gives k) s course.plan.views k (course.lists k) [] no_chain 0 0 rest0 0 fresh.capacity (omega arith) (let v : 4 ≤ course.plan.views = rests.views in omega (arith, v)) (let c : 20 ≤ fresh.capacity = fresh.room in omega (arith, c))
+            ap (λ (gs : Gives). turn_of course.fits gs r.state (Tick 0)) (g.each k r found).0.gives_is
+            ∙ ap (λ (st : State). turn_of course.fits (course.gives k) st (Tick 0)) fresh.is
+            ∙ ticks course.fits (course.gives k) s course.plan.views k (course.lists k) [] no_chain 0 0 rest0 0 fresh.capacity (omega arith)
+            (let v : 4 ≤ course.plan.views = rests.views in omega (arith, v)) (let c : 20 ≤ fresh.capacity = fresh.room in omega (arith, c))
 
         evented : Evented course (HasTicked (suc k)) k r (Tick 0) (called fresh.capacity)
         evented = record {
@@ -157,8 +162,11 @@ module _ (course : Course) where
           );
         }
 
-        after_tick : Grounds course (HasTicked (suc k)) 1 (event_at course.fits course.plan w k (Tick 0)) × ((event_at course.fits course.plan w k (Tick 0)).queue ≡ w.queue ++ map (envelope k) (turn_of course.fits r.gives r.state (Tick 0)).reported.sends)
-        after_tick = event_on course (HasTicked k) (HasTicked (suc k)) 1 w k (Tick 0) r g found (subst (Evented course (HasTicked (suc k)) k r (Tick 0)) (sym tick_is) evented)
+        after_tick : Grounds course (HasTicked (suc k)) 1 (event_at course.fits course.plan w k (Tick 0))
+            × ((event_at course.fits course.plan w k (Tick 0)).queue
+            ≡ w.queue ++ map (envelope k) (turn_of course.fits r.gives r.state (Tick 0)).reported.sends)
+        after_tick = event_on course (HasTicked k) (HasTicked (suc k)) 1 w k (Tick 0) r g found
+            (subst (Evented course (HasTicked (suc k)) k r (Tick 0)) (sym tick_is) evented)
             (λ j x other p. (p.0, (λ below. p.1 (omega (arith, below, (λ (same : k ≡ j). other same)))), (λ above. p.2 (omega (arith, above)))))
 
         happened : Happened course k (Tick 0) (called fresh.capacity).reported
@@ -166,19 +174,25 @@ module _ (course : Course) where
             let o : Outcome = turn_of course.fits r.gives r.state (Tick 0) in
             let passed : Way = sent_all k (way r.links w.queue) o.reported.sends in
             let new : Replica = following r (Tick 0) o passed.links in
-            let there : slice_get (event_at course.fits course.plan w k (Tick 0)).replicas k ≡ Some new = ap (λ (x : World). slice_get x.replicas k) (event_is course.fits course.plan course.faulty w k (Tick 0) r found) ∙ get_set w.replicas k new r found in
+            let there : slice_get (event_at course.fits course.plan w k (Tick 0)).replicas k ≡ Some new =
+            ap (λ (x : World). slice_get x.replicas k) (event_is course.fits course.plan course.faulty w k (Tick 0) r found)
+            ∙ get_set w.replicas k new r found in
             let (x, more, at_F, journal) = grew.each k new there in
             record {
               replica = x;
               found = at_F;
               place = length r.journal;
-              entry = ap (λ (es : List Entry). slice_get es (length r.journal)) journal ∙ get_mid r.journal (record { event = Tick 0; turned = o.reported }) more
+              entry = ap (λ (es : List Entry). slice_get es (length r.journal)) journal
+                  ∙ get_mid r.journal (record { event = Tick 0; turned = o.reported }) more
                   ∙ ap (λ (y : Outcome). Some (record { event = Tick 0; turned = y.reported })) tick_is;
             }
 
         written : IsWritable (sent.NewView k 1 first_cert seal)
         written = (
-          record { named = (let few : s.n ≤ 16 = rests.small in omega (arith, inside, few)); sealed = rests.short k 0 (call_spelling NEW_VIEW k 1 first_cert) inside },
+          record {
+            named = (let few : s.n ≤ 16 = rests.small in omega (arith, inside, few));
+            sealed = rests.short k 0 (call_spelling NEW_VIEW k 1 first_cert) inside;
+          },
           omega arith,
           first_written,
         )
@@ -195,19 +209,29 @@ module _ (course : Course) where
 
         ticked_at : Ticked (event_at course.fits course.plan w k (Tick 0))
         ticked_at =
-            let queue_is : (event_at course.fits course.plan w k (Tick 0)).queue ≡ w.queue ++ envelope k send ∷ [] = after_tick.1 ∙ ap (λ (y : Outcome). w.queue ++ map (envelope k) y.reported.sends) tick_is in
-            (after_tick.0, subst (Queue OnWay 0 (suc k)) (sym queue_is) (queue_more OnWay 0 k w.queue (envelope k send) queue (let same : 0 + k ≡ k = omega arith in rw same on_way)))
+            let queue_is : (event_at course.fits course.plan w k (Tick 0)).queue ≡ w.queue ++ envelope k send ∷ [] =
+            after_tick.1 ∙ ap (λ (y : Outcome). w.queue ++ map (envelope k) y.reported.sends) tick_is in (
+              after_tick.0,
+              subst (Queue OnWay 0 (suc k)) (sym queue_is)
+                  (queue_more OnWay 0 k w.queue (envelope k send) queue (let same : 0 + k ≡ k = omega arith in rw same on_way)),
+            )
 
       ticked_one : Ticked (event_at course.fits course.plan w k (Tick 0))
       ticked_one = (let (r, found) = found_at w.replicas k (omega (arith, inside, g.count)) in ticked_at r found)
 
-    ticked_from : (m k : ℕ) → k + m ≡ s.n → (w : World) → Grounds course (HasTicked k) 1 w → Queue OnWay 0 k w.queue → Grew (ticked_over course.fits course.plan 0 w (range_with_len k m)) course.last
-        → Grounds course (HasTicked s.n) 1 (ticked_over course.fits course.plan 0 w (range_with_len k m)) × Queue OnWay 0 s.n (ticked_over course.fits course.plan 0 w (range_with_len k m)).queue
-    ticked_from zero k all w g queue grew = (let is_n : k ≡ s.n = omega (arith, all) in (subst (λ (x : ℕ). Grounds course (HasTicked x) 1 w) is_n g, subst (λ (x : ℕ). Queue OnWay 0 x w.queue) is_n queue))
+    ticked_from : (m k : ℕ) → k + m ≡ s.n → (w : World) → Grounds course (HasTicked k) 1 w → Queue OnWay 0 k w.queue
+        → Grew (ticked_over course.fits course.plan 0 w (range_with_len k m)) course.last
+        → Grounds course (HasTicked s.n) 1 (ticked_over course.fits course.plan 0 w (range_with_len k m))
+        × Queue OnWay 0 s.n (ticked_over course.fits course.plan 0 w (range_with_len k m)).queue
+    ticked_from zero k all w g queue grew =
+        (let is_n : k ≡ s.n = omega (arith, all) in
+        (subst (λ (x : ℕ). Grounds course (HasTicked x) 1 w) is_n g, subst (λ (x : ℕ). Queue OnWay 0 x w.queue) is_n queue))
     ticked_from (suc m) k all w g queue grew =
-        let one = ticked_one w k (omega (arith, all)) g queue (grew_on (event_at course.fits course.plan w k (Tick 0)) _ course.last (grew_ticks course.fits course.plan course.faulty 0 (event_at course.fits course.plan w k (Tick 0)) (range_with_len (k + 1) m)) grew) in
+        let one = ticked_one w k (omega (arith, all)) g queue (grew_on (event_at course.fits course.plan w k (Tick 0)) _ course.last
+        (grew_ticks course.fits course.plan course.faulty 0 (event_at course.fits course.plan w k (Tick 0)) (range_with_len (k + 1) m)) grew) in
         let same : k + 1 ≡ suc k = omega arith in
-        let rest : Grew (ticked_over course.fits course.plan 0 (event_at course.fits course.plan w k (Tick 0)) (range_with_len (suc k) m)) course.last = rw same at grew in
+        let rest : Grew (ticked_over course.fits course.plan 0 (event_at course.fits course.plan w k (Tick 0)) (range_with_len (suc k) m))
+        course.last = rw same at grew in
         rw same (ticked_from m (suc k) (omega (arith, all)) (event_at course.fits course.plan w k (Tick 0)) one.0 one.1 rest)
 
     had_ticked : (v : World) → Grounds course (HasHad course s.n) 0 v → Grounds course (HasTicked 0) 1 (record v { ticks = v.ticks + 1 })
@@ -226,13 +250,20 @@ module _ (course : Course) where
 
     -- ---- the first step
 
-    module _ (at_once : (r : ℕ) → r < s.n → All (λ t. t.turn ≡ 0) (timed_for course.plan r)) (listed : (r : ℕ) → course.lists r ≡ txs_of (timed_for course.plan r)) (some : (r : ℕ) → r < s.n → 1 ≤ length (course.lists r)) where
-      pub first_step : 1 ≤ course.plan.ticks → 1 ≤ length course.due → (w : World) → Grounds course (HasHad course 0) 0 w → w.queue ≡ [] → step course.fits course.plan w ≡ going_on (after_ticks w)
+    module _ (at_once : (r : ℕ) → r < s.n → All (λ t. t.turn ≡ 0) (timed_for course.plan r))
+        (listed : (r : ℕ) → course.lists r ≡ txs_of (timed_for course.plan r)) (some : (r : ℕ) → r < s.n → 1 ≤ length (course.lists r)) where
+      pub first_step : 1 ≤ course.plan.ticks → 1 ≤ length course.due → (w : World) → Grounds course (HasHad course 0) 0 w → w.queue ≡ []
+          → step course.fits course.plan w ≡ going_on (after_ticks w)
       unfolding step advanced
       first_step ticks_some wanted w g empty =
           let v : World = give_arrivals course.fits course.plan w in
           let given : Grounds course (HasHad course s.n) 0 v × (v.queue ≡ []) = all_given course at_once listed some w g empty in
-          rw (not_done v given.0 wanted rests.some, le_no course.plan.turns v.turns (let t : v.turns ≡ 0 = given.0.turns in let x : 1 ≤ s.n = rests.some in omega (arith, t, x, course.enough)), given.1, le_no course.plan.ticks v.ticks (let t : v.ticks ≡ 0 = given.0.ticks_are in omega (arith, t, ticks_some)))
+          rw (
+            not_done v given.0 wanted rests.some,
+            le_no course.plan.turns v.turns (let t : v.turns ≡ 0 = given.0.turns in let x : 1 ≤ s.n = rests.some in omega (arith, t, x, course.enough)),
+            given.1,
+            le_no course.plan.ticks v.ticks (let t : v.ticks ≡ 0 = given.0.ticks_are in omega (arith, t, ticks_some)),
+          )
 
       pub all_called : 1 ≤ length course.due → (w : World) → Grounds course (HasHad course 0) 0 w → w.queue ≡ [] → Grew (after_ticks w) course.last
           → Going course HasCalled (after_ticks w) × Queue OnWay 0 s.n (after_ticks w).queue × ((after_ticks w).turns ≡ 0)
@@ -242,15 +273,21 @@ module _ (course : Course) where
           let given : Grounds course (HasHad course s.n) 0 v × (v.queue ≡ []) = all_given course at_once listed some w g empty in
           let v1 : World = record v { ticks = v.ticks + 1 } in
           let floor : floor_over course.plan v1 0 (everyone course.plan) ≡ 0 = floor_from v1 (λ at. no_view v given.0 at) (everyone course.plan) in
-          let grew0 : Grew (ticked_over course.fits course.plan 0 v1 (everyone course.plan)) course.last = subst (λ (x : ℕ). Grew (ticked_over course.fits course.plan x v1 (everyone course.plan)) course.last) floor grew in
+          let grew0 : Grew (ticked_over course.fits course.plan 0 v1 (everyone course.plan)) course.last =
+          subst (λ (x : ℕ). Grew (ticked_over course.fits course.plan x v1 (everyone course.plan)) course.last) floor grew in
           let all = ticked_from s.n 0 (omega arith) v1 (had_ticked v given.0) (subst (Queue OnWay 0 0) (sym given.1) tt) grew0 in
-          subst (λ (x : ℕ). Going course HasCalled (ticked_over course.fits course.plan x v1 (everyone course.plan)) × Queue OnWay 0 s.n (ticked_over course.fits course.plan x v1 (everyone course.plan)).queue × ((ticked_over course.fits course.plan x v1 (everyone course.plan)).turns ≡ 0)) (sym floor) (
+          subst (λ (x : ℕ). Going course HasCalled (ticked_over course.fits course.plan x v1 (everyone course.plan))
+          × Queue OnWay 0 s.n (ticked_over course.fits course.plan x v1 (everyone course.plan)).queue
+          × ((ticked_over course.fits course.plan x v1 (everyone course.plan)).turns ≡ 0)) (sym floor) (
             record {
               count = all.0.count;
               each = λ i r found. (
-                  let inside : i < length (ticked_over course.fits course.plan 0 v1 (everyone course.plan)).replicas = slice_get_within (ticked_over course.fits course.plan 0 v1 (everyone course.plan)).replicas i r found in
-                  let both = all.0.each i r found in
-                  (record { gives_is = both.0.gives_is; left = both.1.0; txs = both.0.txs; links = both.0.links; sealed = both.0.sealed }, both.1.1 (omega (arith, inside, all.0.count)))
+                  let inside : i < length (ticked_over course.fits course.plan 0 v1 (everyone course.plan)).replicas =
+                  slice_get_within (ticked_over course.fits course.plan 0 v1 (everyone course.plan)).replicas i r found in
+                  let both = all.0.each i r found in (
+                    record { gives_is = both.0.gives_is; left = both.1.0; txs = both.0.txs; links = both.0.links; sealed = both.0.sealed },
+                    both.1.1 (omega (arith, inside, all.0.count)),
+                  )
                   );
               ticks = all.0.ticks_are;
               due = all.0.due;

@@ -104,5 +104,7 @@ module _ (course : Course) where
     pub good : IsGoodOrder course.fits s course.lists Seal [] sealed
 
   pub is_call : (me kind by : ℕ) (seal : List ℕ) → course.fits by (call_spelling kind by 1 first_cert) seal ≡ true
-      → IsCall course.fits (course.gives me) s course.plan.views me (course.lists me) [] no_chain kind by 1 (record { kind = kind; replica = by; view = 1; cert = first_cert; seal = seal })
-  is_call me kind by seal sealed = record { kind_is = refl; own = refl; view = refl; below = omega arith; stored = omega arith; block = refl; good = refl; seal_fits = sealed }
+      → IsCall course.fits (course.gives me) s course.plan.views me (course.lists me) [] no_chain kind by 1
+      (record { kind = kind; replica = by; view = 1; cert = first_cert; seal = seal })
+  is_call me kind by seal sealed =
+      record { kind_is = refl; own = refl; view = refl; below = omega arith; stored = omega arith; block = refl; good = refl; seal_fits = sealed }

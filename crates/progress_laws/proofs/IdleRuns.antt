@@ -38,7 +38,8 @@ use Rattle.progress_laws.proofs.Items.{got_map, each_is, each_from_get, each_map
 use Rattle.round_rules.proofs.Places.{all_at}
 
 -- nothing is due if all lists are empty
-due_none : (honest : ℕ → Bool) (i : ℕ) (lists : List (List Tx)) → Each (λ list. list ≡ []) lists → in_all (map (λ (item : ℕ × List Tx). item.1) (honest_items honest i lists)) ≡ []
+due_none : (honest : ℕ → Bool) (i : ℕ) (lists : List (List Tx)) → Each (λ list. list ≡ []) lists
+    → in_all (map (λ (item : ℕ × List Tx). item.1) (honest_items honest i lists)) ≡ []
 due_none honest i [] each = refl
 due_none honest i (l ∷ lists) each = by (honest i) (due_none honest (i + 1) lists each.1)
   where
@@ -53,18 +54,21 @@ none_of_map f [] none = refl
 none_of_map f (x ∷ xs) none = absurd (cc)
 
 -- a record of no entries received no block
-pub none_received : (run : RunRecord) → ((at : ℕ) (journal : Journal) → slice_get run.journals at ≡ Some journal → journal.entries ≡ []) → (r : Received) → IsReceived run r → ⊥
+pub none_received : (run : RunRecord) → ((at : ℕ) (journal : Journal) → slice_get run.journals at ≡ Some journal → journal.entries ≡ [])
+    → (r : Received) → IsReceived run r → ⊥
 none_received run empty r is =
     let entries : is.has.journal.entries ≡ [] = empty r.receiver is.has.journal is.has.journal_is in
     let at : slice_get is.has.journal.entries r.entry ≡ Some is.entry = is.has.entry_is in
     none-some is.entry (sym (ap (λ (es : List Entry). slice_get es r.entry) entries) ∙ at)
 
-module _ (fits : Check) (plan : Plan) (nothing : BringsNothing plan) (sealers : List Signer) (made : AreMadeFor plan sealers) (collides : (run : RunRecord) → (IsCollided run → ⊥) → first_collision_of run ≡ None) where
+module _ (fits : Check) (plan : Plan) (nothing : BringsNothing plan) (sealers : List Signer) (made : AreMadeFor plan sealers)
+    (collides : (run : RunRecord) → (IsCollided run → ⊥) → first_collision_of run ≡ None) where
   abbrev start : World
   start = start_of plan sealers
 
   empty_feed : (k : ℕ) (x : Signer) → slice_get sealers k ≡ Some x → timed_for plan x.replica ≡ []
-  empty_feed k x found = none_of_map (λ (t : TimedTx). t.tx) (timed_for plan x.replica) (nothing x.replica (all_at (λ (s : Signer). s.replica < plan.setting.n) sealers k x made.below found))
+  empty_feed k x found = none_of_map (λ (t : TimedTx). t.tx) (timed_for plan x.replica)
+      (nothing x.replica (all_at (λ (s : Signer). s.replica < plan.setting.n) sealers k x made.below found))
 
   replicas_empty : (k : ℕ) (r : Replica) → slice_get start.replicas k ≡ Some r → (r.feed.left ≡ []) × (r.feed.txs ≡ []) × (r.journal ≡ [])
   unfolding start_of feed_of
@@ -75,7 +79,8 @@ module _ (fits : Check) (plan : Plan) (nothing : BringsNothing plan) (sealers : 
   none_due : start.due ≡ []
   unfolding start_of feed_of
   none_due = due_none (is_honest plan.setting.n plan.faulty) 0 (map (λ s. (feed_of plan s.replica).txs) sealers)
-      (each_map (λ (s : Signer). (feed_of plan s.replica).txs) (λ list. list ≡ []) sealers (each_from_get (λ (s : Signer). (feed_of plan s.replica).txs ≡ []) sealers (λ k x found. ap txs_of (empty_feed k x found))))
+      (each_map (λ (s : Signer). (feed_of plan s.replica).txs) (λ list. list ≡ []) sealers
+      (each_from_get (λ (s : Signer). (feed_of plan s.replica).txs ≡ []) sealers (λ k x found. ap txs_of (empty_feed k x found))))
 
   start_done : has_all_due plan start ≡ true
   unfolding has_all_due holds_due
@@ -97,7 +102,8 @@ module _ (fits : Check) (plan : Plan) (nothing : BringsNothing plan) (sealers : 
   none_due_there : due_of run.setting.n run.faulty run.arrivals ≡ []
   unfolding record_of
   none_due_there = due_none (is_honest plan.setting.n plan.faulty) 0 (map (λ (r : Replica). r.feed.txs) start.replicas)
-      (each_map (λ (r : Replica). r.feed.txs) (λ list. list ≡ []) start.replicas (each_from_get (λ (r : Replica). r.feed.txs ≡ []) start.replicas (λ k r found. (replicas_empty k r found).1)))
+      (each_map (λ (r : Replica). r.feed.txs) (λ list. list ≡ []) start.replicas
+      (each_from_get (λ (r : Replica). r.feed.txs ≡ []) start.replicas (λ k r found. (replicas_empty k r found).1)))
 
   is_all_done : is_record_done run ≡ true
   unfolding start_of record_of

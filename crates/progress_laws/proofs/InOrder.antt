@@ -61,7 +61,8 @@ one_place one other i j t (inr begins) once_one once_other at_i at_j =
 -- ---- the run
 
 module _ (s : Parameters) (valid : IsValid s) (fits : Check) (sealers : List Signer) (made : AreMadeFor (two_each s) sealers)
-    (agree : Agree (play_of fits (two_each s) sealers)) (once : Once (play_of fits (two_each s) sealers)) (done : IsDone (play_of fits (two_each s) sealers)) where
+    (agree : Agree (play_of fits (two_each s) sealers)) (once : Once (play_of fits (two_each s) sealers))
+    (done : IsDone (play_of fits (two_each s) sealers)) where
   abbrev world : World
   world = run_for fits (two_each s) (start_of (two_each s) sealers) (steps_of (two_each s))
 

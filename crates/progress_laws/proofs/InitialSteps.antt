@@ -32,7 +32,9 @@ use Rattle.progress_laws.proofs.Items.{each_more}
 
 all_now : (list : List TimedTx) → All (λ t. t.turn ≡ 0) list → count_by_now 0 list ≡ length list
 all_now [] all = refl
-all_now (t ∷ ts) all = (let now : t.turn ≡ 0 = All-head (λ (x : TimedTx). x.turn ≡ 0) t ts all in rw now (let rest : count_by_now 0 ts ≡ length ts = all_now ts (All-tail (λ (x : TimedTx). x.turn ≡ 0) t ts all) in omega (arith, rest)))
+all_now (t ∷ ts) all =
+    (let now : t.turn ≡ 0 = All-head (λ (x : TimedTx). x.turn ≡ 0) t ts all in
+    rw now (let rest : count_by_now 0 ts ≡ length ts = all_now ts (All-tail (λ (x : TimedTx). x.turn ≡ 0) t ts all) in omega (arith, rest)))
 
 -- the state of a new node, apart from its list
 abbrev pub rest0 : Rest
@@ -70,7 +72,8 @@ module _ (course : Course) where
 
   pub event_on : (P Q : ℕ → Replica → Type 0) (ticks : ℕ) (w : World) (at : ℕ) (e : Event) (r : Replica) → Grounds P ticks w → slice_get w.replicas at ≡ Some r
       → Evented Q at r e (turn_of course.fits r.gives r.state e) → ((j : ℕ) (x : Replica) → (at ≡ j → ⊥) → P j x → Q j x)
-      → Grounds Q ticks (event_at course.fits course.plan w at e) × ((event_at course.fits course.plan w at e).queue ≡ w.queue ++ map (envelope at) (turn_of course.fits r.gives r.state e).reported.sends)
+      → Grounds Q ticks (event_at course.fits course.plan w at e)
+      × ((event_at course.fits course.plan w at e).queue ≡ w.queue ++ map (envelope at) (turn_of course.fits r.gives r.state e).reported.sends)
   unfolding sent_all
   event_on P Q ticks w at e r g found ev stays =
       let o : Outcome = turn_of course.fits r.gives r.state e in
@@ -83,7 +86,13 @@ module _ (course : Course) where
         count = length_set w.replicas at new ∙ g.count;
         each = λ j y at_j. elim (set_cases w.replicas at j new y at_j) [
           | inl p ↦ subst (λ (z : Replica). Base j z × Q j z) p.1 (subst (λ (k : ℕ). Base k new × Q k new) p.0 (
-            record { gives_is = base.gives_is; txs = base.txs; links = pass.links; sealed = each_more (λ (x : Entry). AreSealed course x.event) r.journal (record { event = e; turned = o.reported } ∷ []) base.sealed (ev.parts, tt) },
+            record {
+              gives_is = base.gives_is;
+              txs = base.txs;
+              links = pass.links;
+              sealed = each_more (λ (x : Entry). AreSealed course x.event) r.journal
+                  (record { event = e; turned = o.reported } ∷ []) base.sealed (ev.parts, tt);
+            },
             ev.state passed.links,
           ))
           | inr p ↦ (let old = g.each j y p.1 in (old.0, stays j y p.0 old.1))
@@ -91,8 +100,10 @@ module _ (course : Course) where
         turns = g.turns;
         ticks_are = g.ticks_are;
         due = g.due;
-      } in
-      (subst (Grounds Q ticks) (sym (event_is course.fits course.plan course.faulty w at e r found)) grounds, ap (λ (x : World). x.queue) (event_is course.fits course.plan course.faulty w at e r found) ∙ pass.queue_is)
+      } in (
+        subst (Grounds Q ticks) (sym (event_is course.fits course.plan course.faulty w at e r found)) grounds,
+        ap (λ (x : World). x.queue) (event_is course.fits course.plan course.faulty w at e r found) ∙ pass.queue_is,
+      )
 
   -- ---- all arrives
 
@@ -100,7 +111,8 @@ module _ (course : Course) where
   abbrev pub HasHad : ℕ → ℕ → Replica → Type 0
   HasHad k i r = (i < k → (r.feed.left ≡ []) × Fresh (course.lists i) i r.state) × (k ≤ i → (r.feed ≡ feed_of course.plan i) × Fresh [] i r.state)
 
-  module _ (at_once : (r : ℕ) → r < s.n → All (λ t. t.turn ≡ 0) (timed_for course.plan r)) (listed : (r : ℕ) → course.lists r ≡ txs_of (timed_for course.plan r)) (some : (r : ℕ) → r < s.n → 1 ≤ length (course.lists r)) where
+  module _ (at_once : (r : ℕ) → r < s.n → All (λ t. t.turn ≡ 0) (timed_for course.plan r))
+      (listed : (r : ℕ) → course.lists r ≡ txs_of (timed_for course.plan r)) (some : (r : ℕ) → r < s.n → 1 ≤ length (course.lists r)) where
     all_arrives : (k : ℕ) → k < s.n → arrived 0 (feed_of course.plan k) ≡ course.lists k
     unfolding feed_of
     all_arrives k inside = rw (all_now (timed_for course.plan k) (at_once k inside)) (ap txs_of (take-length (timed_for course.plan k)) ∙ sym (listed k))
@@ -152,7 +164,8 @@ module _ (course : Course) where
         at_k = get_set w.replicas k r1 r found
 
         report : (list : List Tx) → course.lists k ≡ list → Given (reported_arrived course.fits course.plan w1 k list)
-        report [] is = absurd (let x : 1 ≤ length (course.lists k) = some k inside in let none : length (course.lists k) ≡ 0 = ap length is in omega (arith, x, none))
+        report [] is = absurd (let x : 1 ≤ length (course.lists k) = some k inside in
+            let none : length (course.lists k) ≡ 0 = ap length is in omega (arith, x, none))
         report (t ∷ ts) is =
             let known : Fresh [] k r.state = had.1 in
             let both = event_on Taken (HasHad (suc k)) 0 w1 k (Arrived (t ∷ ts)) r1 taken at_k
@@ -185,18 +198,23 @@ module _ (course : Course) where
       unfolding taken_at arrived_at
       given_one = by (slice_get w.replicas k) refl
         where
-          by : (o : Option Replica) → slice_get w.replicas k ≡ o → Given (reported_arrived course.fits course.plan (taken_for w k o) k (option_map_or (λ r. arrived w.turns r.feed) o []))
+          by : (o : Option Replica) → slice_get w.replicas k ≡ o
+              → Given (reported_arrived course.fits course.plan (taken_for w k o) k (option_map_or (λ r. arrived w.turns r.feed) o []))
           by None is = absurd (let (x, found) = found_at w.replicas k (omega (arith, inside, g.count)) in let never : None ≡ Some x = sym is ∙ found in cc)
           by (Some r) is = report_all r is
 
-    given_from : (m k : ℕ) → k + m ≡ s.n → (w : World) → Grounds (HasHad k) 0 w → w.queue ≡ [] → Grounds (HasHad s.n) 0 (fold (given_at course.fits course.plan) w (range_with_len k m)) × ((fold (given_at course.fits course.plan) w (range_with_len k m)).queue ≡ [])
+    given_from : (m k : ℕ) → k + m ≡ s.n → (w : World)
+        → Grounds (HasHad k) 0 w → w.queue ≡ [] → Grounds (HasHad s.n) 0 (fold (given_at course.fits course.plan) w (range_with_len k m))
+        × ((fold (given_at course.fits course.plan) w (range_with_len k m)).queue ≡ [])
     given_from zero k all w g empty = (let is_n : k ≡ s.n = omega (arith, all) in (subst (λ (x : ℕ). Grounds (HasHad x) 0 w) is_n g, empty))
     given_from (suc m) k all w g empty =
-        let one : Grounds (HasHad (suc k)) 0 (given_at course.fits course.plan w k) × ((given_at course.fits course.plan w k).queue ≡ []) = given_one w k (omega (arith, all)) g empty in
+        let one : Grounds (HasHad (suc k)) 0 (given_at course.fits course.plan w k) × ((given_at course.fits course.plan w k).queue ≡ []) =
+        given_one w k (omega (arith, all)) g empty in
         let same : k + 1 ≡ suc k = omega arith in
         rw same (given_from m (suc k) (omega (arith, all)) (given_at course.fits course.plan w k) one.0 one.1)
 
     -- All replicas know their lists, and have done nothing.
-    pub all_given : (w : World) → Grounds (HasHad 0) 0 w → w.queue ≡ [] → Grounds (HasHad s.n) 0 (give_arrivals course.fits course.plan w) × ((give_arrivals course.fits course.plan w).queue ≡ [])
+    pub all_given : (w : World) → Grounds (HasHad 0) 0 w → w.queue ≡ []
+        → Grounds (HasHad s.n) 0 (give_arrivals course.fits course.plan w) × ((give_arrivals course.fits course.plan w).queue ≡ [])
     unfolding give_arrivals
     all_given w g empty = given_from s.n 0 (omega arith) w g empty

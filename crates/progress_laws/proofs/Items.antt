@@ -19,7 +19,8 @@ get_last [] x = refl
 get_last (y ∷ xs) x = get_last xs x
 
 -- an item of a list with one more at its end
-pub get_more : {X : Type 0} (xs : List X) (x y : X) (k : ℕ) (P : Type 0) → slice_get (xs ++ x ∷ []) k ≡ Some y → (slice_get xs k ≡ Some y → P) → (k ≡ length xs → x ≡ y → P) → P
+pub get_more : {X : Type 0} (xs : List X) (x y : X) (k : ℕ) (P : Type 0) → slice_get (xs ++ x ∷ []) k ≡ Some y
+    → (slice_get xs k ≡ Some y → P) → (k ≡ length xs → x ≡ y → P) → P
 get_more [] x y zero P found prefix last = last refl (let same : x ≡ y = cc in same)
 get_more [] x y (suc k) P found prefix last = absurd (cc)
 get_more (z ∷ xs) x y zero P found prefix last = prefix found
@@ -35,7 +36,8 @@ set_same [] i x found = refl
 set_same (z ∷ xs) zero x found = (let same : z ≡ x = cc in ap (λ y. y ∷ xs) (sym same))
 set_same (z ∷ xs) (suc i) x found = ap (λ ys. z ∷ ys) (set_same xs i x found)
 
-pub same_lists : {X : Type 0} (xs ys : List X) → length xs ≡ length ys → ((k : ℕ) (x y : X) → slice_get xs k ≡ Some x → slice_get ys k ≡ Some y → x ≡ y) → xs ≡ ys
+pub same_lists : {X : Type 0} (xs ys : List X) → length xs ≡ length ys
+    → ((k : ℕ) (x y : X) → slice_get xs k ≡ Some x → slice_get ys k ≡ Some y → x ≡ y) → xs ≡ ys
 same_lists [] [] many each = refl
 same_lists [] (y ∷ ys) many each = absurd (omega (arith, many))
 same_lists (x ∷ xs) [] many each = absurd (omega (arith, many))

@@ -45,7 +45,13 @@ are_sealers fits gives capacity n room seals = record {
   each = λ r s found.
       let (below, is) = at_place gives capacity n r s found in
       subst (IsSealerOf fits r) is
-      (record { own = refl; fresh = refl; room = room; fit = λ number bytes. seals.fit r number bytes below; short = λ number bytes. seals.short r number bytes below });
+      (record {
+        own = refl;
+        fresh = refl;
+        room = room;
+        fit = λ number bytes. seals.fit r number bytes below;
+        short = λ number bytes. seals.short r number bytes below;
+      });
 }
 
 -- ---- they were made for the plan

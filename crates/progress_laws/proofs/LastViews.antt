@@ -48,12 +48,14 @@ module _ (course : Course) (rests : Rests course) where
 
   -- A view: the block is proposed, and voted for, and the next one is proposed.
   pub one_view : (bs : List Block) (chain : IsChain bs) (come : AllCame bs) → length bs ≤ 2 → (steps now last : ℕ) → last ≤ 10 * s.n → now + (s.n + s.n) ≡ last
-      → ((b : Block) → Makes bs b → IsNext bs b → (v : World) → IsChain (bs ++ b ∷ []) → AllCame (bs ++ b ∷ []) → Goes (IsReady (bs ++ b ∷ [])) v → Proposed (bs ++ b ∷ []) v.queue → v.turns ≡ last → EndsIn steps v)
+      → ((b : Block) → Makes bs b → IsNext bs b → (v : World) → IsChain (bs ++ b ∷ []) → AllCame (bs ++ b ∷ [])
+      → Goes (IsReady (bs ++ b ∷ [])) v → Proposed (bs ++ b ∷ []) v.queue → v.turns ≡ last → EndsIn steps v)
       → (w : World) → Goes (IsReady bs) w → Proposed bs w.queue → w.turns ≡ now → EndsIn (ups (ups steps)) w
   one_view bs chain come low steps now last few turns next w g proposed at_now =
       let b : Block = proposed.block in
       let made : Makes bs b = proposed.made in
-      propose_phase course rests bs chain come b made (omega (arith, low)) (let v : 4 ≤ course.plan.views = rests.views in omega (arith, v, low)) (ups steps) (now + s.n) (omega (arith, few, turns))
+      propose_phase course rests bs chain come b made (omega (arith, low))
+      (let v : 4 ≤ course.plan.views = rests.views in omega (arith, v, low)) (ups steps) (now + s.n) (omega (arith, few, turns))
       (λ v came gv queue turns_v.
       let follows : IsNext bs b = is_next course rests bs chain come b made came in
       let chain2 : IsChain (bs ++ b ∷ []) = chain_more bs b follows chain in
@@ -71,7 +73,8 @@ module _ (course : Course) (rests : Rests course) where
     pub store : st.known.store ≡ bs
     pub committed : st.known.safety.committed ≡ digest_at bs (pred (pred high))
 
-  module _ (bs : List Block) (chain : IsChain bs) (come : AllCame bs) (b : Block) (made : Makes bs b) (low : length bs ≤ 3) (inside : length bs + 1 ≤ course.plan.views) where
+  module _ (bs : List Block) (chain : IsChain bs) (come : AllCame bs) (b : Block) (made : Makes bs b) (low : length bs ≤ 3)
+      (inside : length bs + 1 ≤ course.plan.views) where
     abbrev bs2 : List Block
     bs2 = bs ++ b ∷ []
 
@@ -85,7 +88,8 @@ module _ (course : Course) (rests : Rests course) where
     abbrev Turns : ℕ → Envelope → Outcome → Type 0
     Turns = OutTurn course (IsReady bs) (HasCommitted bs2 (length bs)) (IsProposal course bs b) Anything
 
-    last_turn : (i : ℕ) (e : Envelope) (st : State) (o : Outcome) → i < s.n → IsProposal course bs b i e → IsReady bs i st → o ≡ turn_of course.fits (course.gives i) st (Deliver e.from e.bytes)
+    last_turn : (i : ℕ) (e : Envelope) (st : State) (o : Outcome) → i < s.n → IsProposal course bs b i e → IsReady bs i st
+        → o ≡ turn_of course.fits (course.gives i) st (Deliver e.from e.bytes)
         → Has course i (Deliver e.from e.bytes) o.reported → Turns i e o
     last_turn i e st o below p r is happened = by (cases_lt b.view course.plan.views)
       where
@@ -99,7 +103,9 @@ module _ (course : Course) (rests : Rests course) where
         cert = made.cert_view
 
         high : (higher r.rest.high b.cert).view ≡ length bs
-        high = (let h : r.rest.high.view ≤ length bs = r.high in let is_c : (higher r.rest.high b.cert).view ≡ b.cert.view = higher_is r.rest.high b.cert (omega (arith, h, cert)) in omega (arith, is_c, cert))
+        high =
+            (let h : r.rest.high.view ≤ length bs = r.high in let is_c : (higher r.rest.high b.cert).view ≡ b.cert.view =
+            higher_is r.rest.high b.cert (omega (arith, h, cert)) in omega (arith, is_c, cert))
 
         not_seen : suc r.rest.high.view ≤ b.view
         not_seen = (let h : r.rest.high.view ≤ length bs = r.high in omega (arith, view, h))
@@ -113,7 +119,8 @@ module _ (course : Course) (rests : Rests course) where
         commits : digest_at bs2 (pred (pred (higher r.rest.high b.cert).view)) ≡ digest_at bs2 (pred (pred (length bs)))
         commits = ap (λ (x : ℕ). digest_at bs2 (pred (pred x))) high
 
-        sends_one : (x : Outcome) (bytes : List ℕ) → x.reported.sends ≡ record { to = leader_of s (b.view + 1); bytes = bytes } ∷ [] → HasCommitted bs2 (length bs) i x.state → Turns i e x
+        sends_one : (x : Outcome) (bytes : List ℕ) → x.reported.sends ≡ record { to = leader_of s (b.view + 1); bytes = bytes } ∷ []
+            → HasCommitted bs2 (length bs) i x.state → Turns i e x
         sends_one x bytes sends state = record {
           parts = proposal_parts course rests bs chain come b made low i e p;
           state = state;
@@ -125,11 +132,15 @@ module _ (course : Course) (rests : Rests course) where
 
         by : (b.view < course.plan.views) ⊎ (course.plan.views ≤ b.view) → Turns i e o
         by (inl below_last) = subst (Turns i e) (sym (is ∙ turn_is course rests bs chain come b made low i e st p r
-            ∙ votes course.fits (course.gives i) s course.plan.views i (course.lists i) bs chain b (is_due course rests bs chain come b made came) (record { replica = leader_of s (length bs + 1); block = b; seal = p.seal }) (leader_of s (length bs + 1)) r.rest r.made r.capacity refl refl
+            ∙ votes course.fits (course.gives i) s course.plan.views i (course.lists i) bs chain b
+            (is_due course rests bs chain come b made came) (record { replica = leader_of s (length bs + 1); block = b; seal = p.seal })
+            (leader_of s (length bs + 1)) r.rest r.made r.capacity refl refl
             (ap (leader_of s) (sym made.view)) p.seal_fits below_last not_seen not_voted room))
             (sends_one _ _ refl (record { setting = refl; store = refl; committed = commits }))
         by (inr at_last) = subst (Turns i e) (sym (is ∙ turn_is course rests bs chain come b made low i e st p r
-            ∙ votes_last course.fits (course.gives i) s course.plan.views i (course.lists i) bs chain b (is_due course rests bs chain come b made came) (record { replica = leader_of s (length bs + 1); block = b; seal = p.seal }) (leader_of s (length bs + 1)) r.rest r.made r.capacity refl refl
+            ∙ votes_last course.fits (course.gives i) s course.plan.views i (course.lists i) bs chain b
+            (is_due course rests bs chain come b made came) (record { replica = leader_of s (length bs + 1); block = b; seal = p.seal })
+            (leader_of s (length bs + 1)) r.rest r.made r.capacity refl refl
             (ap (leader_of s) (sym made.view)) p.seal_fits (omega (arith, at_last, view, inside)) not_seen not_voted (omega (arith, room))))
             (sends_one _ _ refl (record { setting = refl; store = refl; committed = commits }))
 

@@ -43,7 +43,8 @@ drawn_passes zero p txs = refl
 drawn_passes (suc m) p [] = refl
 drawn_passes (suc m) p (t ∷ ts) = by (p t) refl (drawn_passes (suc m) p ts) (drawn_passes m p ts)
   where
-    by : (x : Bool) → p t ≡ x → list_all p (take (suc m) (filter p ts)) ≡ true → list_all p (take m (filter p ts)) ≡ true → list_all p (take (suc m) (filter p (t ∷ ts))) ≡ true
+    by : (x : Bool) → p t ≡ x → list_all p (take (suc m) (filter p ts)) ≡ true → list_all p (take m (filter p ts)) ≡ true
+        → list_all p (take (suc m) (filter p (t ∷ ts))) ≡ true
     by true is later rest = rw (is, is) rest
     by false is later rest = rw is later
 
@@ -113,16 +114,19 @@ module _ (fits : Check) (s : Parameters) (lists : ℕ → List Tx) (WasSealed : 
 
   -- ---- the block fits
 
-  placed : (known : Known) (b : Block) → known.setting ≡ s → IsMade b → (orders : List SealedOrder) → Each IsGoodOrder orders → list_all (λ sealed. is_placed known b sealed.order) orders ≡ true
+  placed : (known : Known) (b : Block) → known.setting ≡ s → IsMade b → (orders : List SealedOrder) → Each IsGoodOrder orders
+      → list_all (λ sealed. is_placed known b sealed.order) orders ≡ true
   placed known b setting made [] each = refl
   placed known b setting made (o ∷ orders) each =
       let view : o.order.view ≡ b.view = ap (λ (x : LocalOrder). x.view) each.0.drawn ∙ sym made.view in
       let parent : o.order.parent ≡ b.cert.block = ap (λ (x : LocalOrder). x.parent) each.0.drawn ∙ sym made.cert_block in
       and_from (is_placed known b o.order) _
-      (and_from _ _ (eq_yes o.order.view b.view view) (and_from _ _ (true_same o.order.parent b.cert.block parent) (rw setting (lt_yes o.order.replica s.n each.0.below))))
+      (and_from _ _ (eq_yes o.order.view b.view view)
+      (and_from _ _ (true_same o.order.parent b.cert.block parent) (rw setting (lt_yes o.order.replica s.n each.0.below))))
       (placed known b setting made orders each.1)
 
-  fit_lists : (known : Known) (b : Block) → known.setting ≡ s → known.store ≡ bs → IsMade b → (orders : List SealedOrder) → Each IsGoodOrder orders → list_all (λ sealed. lists_fit known b.cert.block sealed.order) orders ≡ true
+  fit_lists : (known : Known) (b : Block) → known.setting ≡ s → known.store ≡ bs → IsMade b → (orders : List SealedOrder)
+      → Each IsGoodOrder orders → list_all (λ sealed. lists_fit known b.cert.block sealed.order) orders ≡ true
   fit_lists known b setting store made [] each = refl
   fit_lists known b setting store made (o ∷ orders) each =
       and_from (lists_fit known b.cert.block o.order) _
@@ -152,29 +156,34 @@ module _ (fits : Check) (s : Parameters) (lists : ℕ → List Tx) (WasSealed : 
 
   -- ---- a certificate of good votes
 
-  vote_seals : (votes : List CertVote) (all : List CertVote) → Each IsGoodVote votes → list_all (λ (v : CertVote). fits v.replica (vote_spelling v.replica (length bs) last) v.seal) votes ≡ true
+  vote_seals : (votes : List CertVote) (all : List CertVote) → Each IsGoodVote votes
+      → list_all (λ (v : CertVote). fits v.replica (vote_spelling v.replica (length bs) last) v.seal) votes ≡ true
   vote_seals [] all each = refl
   vote_seals (v ∷ votes) all each = and_from (fits v.replica (vote_spelling v.replica (length bs) last) v.seal) _ each.0.seal_fits (vote_seals votes all each.1)
 
   abbrev pub cert_of : List CertVote → Cert
   cert_of votes = record { view = length bs; block = last; votes = votes }
 
-  pub cert_good : (votes : List CertVote) → 1 ≤ length bs → length votes ≡ quorum_of s → quorum_of s ≤ s.n → RunFrom voter 0 votes → Each IsGoodVote votes → is_good fits s (cert_of votes) ≡ true
+  pub cert_good : (votes : List CertVote) → 1 ≤ length bs → length votes ≡ quorum_of s → quorum_of s ≤ s.n → RunFrom voter 0 votes
+      → Each IsGoodVote votes → is_good fits s (cert_of votes) ≡ true
   cert_good votes some count few run each =
       or_right (is_first (cert_of votes)) _
       (and_from (has_quorum s (cert_of votes)) _
       (and_from _ _ (lt_yes 0 (length bs) (omega (arith, some)))
-      (and_from _ _ (let yes_count : (length votes == quorum_of s) ≡ true = grind (arith, nat_tests, count) in yes_count) (rises_below s.n 0 votes run (omega (arith, count, few)))))
+      (and_from _ _ (let yes_count : (length votes == quorum_of s) ≡ true = grind (arith, nat_tests, count) in yes_count)
+      (rises_below s.n 0 votes run (omega (arith, count, few)))))
       (vote_seals votes votes each))
 
-  vote_parts_sealed : (votes : List CertVote) (c : Cert) → c.view ≡ length bs → c.block ≡ last → Each IsGoodVote votes → Each WasSealed (map (vote_part c) votes)
+  vote_parts_sealed : (votes : List CertVote) (c : Cert) → c.view ≡ length bs → c.block ≡ last → Each IsGoodVote votes
+      → Each WasSealed (map (vote_part c) votes)
   vote_parts_sealed [] c view block each = tt
   vote_parts_sealed (v ∷ votes) c view block each = (rw (view, block) each.0.was_sealed, vote_parts_sealed votes c view block each.1)
 
   pub cert_sealed : (votes : List CertVote) → Each IsGoodVote votes → Each WasSealed (cert_parts (cert_of votes))
   cert_sealed votes each = vote_parts_sealed votes (cert_of votes) refl refl each
 
-  pub cert_written : (votes : List CertVote) → s.n ≤ 16 → length bs < 2 ^ 32 → length votes ≤ s.n → RunFrom voter 0 votes → Each IsGoodVote votes → IsWritableCert (cert_of votes)
+  pub cert_written : (votes : List CertVote) → s.n ≤ 16 → length bs < 2 ^ 32 → length votes ≤ s.n → RunFrom voter 0 votes
+      → Each IsGoodVote votes → IsWritableCert (cert_of votes)
   cert_written votes small few_views few run each = record {
     view = few_views;
     block = digest_long bs (length bs) (omega arith);

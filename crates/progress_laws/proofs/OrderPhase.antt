@@ -76,22 +76,29 @@ module _ (course : Course) (rests : Rests course) where
     order_turn_is : (x : State) → st ≡ x → turn_of course.fits (course.gives L) st (Deliver e.from e.bytes) ≡ on_order course.fits (course.gives L) x k c.sealed
     order_turn_is x is =
         ap (λ (r : Result MessageView WireFault). delivered course.fits (course.gives L) st e.from r) c.read
-        ∙ ap (λ (y : State). on_order course.fits (course.gives L) y e.from c.sealed) is ∙ ap (λ (y : ℕ). on_order course.fits (course.gives L) x y c.sealed) c.from
+        ∙ ap (λ (y : State). on_order course.fits (course.gives L) y e.from c.sealed) is
+        ∙ ap (λ (y : ℕ). on_order course.fits (course.gives L) x y c.sealed) c.from
 
-    is_order : (r : Rest) → r.ask_cert ≡ first_cert → IsOrder course.fits (course.gives L) s course.plan.views L (course.lists L) [] 1 from_one one_view refl k r.ask_cert.block c.sealed
-    is_order r ask_cert = subst (λ (x : Cert). IsOrder course.fits (course.gives L) s course.plan.views L (course.lists L) [] 1 from_one one_view refl k x.block c.sealed) (sym ask_cert) (record {
-      own = c.own;
-      view = ap (λ (o : LocalOrder). o.view) c.good.drawn;
-      over = ap (λ (o : LocalOrder). o.parent) c.good.drawn;
-      lists_fit = ap (fits_chain (chain_state_of (record { setting = s; blocks = [] }) first_digest)) c.good.drawn
-          ∙ drawn_fits c.sealed.order.replica 1 first_digest (course.lists c.sealed.order.replica) (chain_state_of (record { setting = s; blocks = [] }) first_digest);
-      seal_fits = subst (λ (x : ℕ). course.fits x (order_spelling c.sealed.order) c.sealed.seal ≡ true) c.own c.good.seal_fits;
-    })
+    is_order : (r : Rest) → r.ask_cert ≡ first_cert
+        → IsOrder course.fits (course.gives L) s course.plan.views L (course.lists L) [] 1 from_one one_view refl k r.ask_cert.block c.sealed
+    is_order r ask_cert =
+        subst (λ (x : Cert). IsOrder course.fits (course.gives L) s course.plan.views L (course.lists L) [] 1 from_one one_view refl k x.block c.sealed)
+        (sym ask_cert) (record {
+          own = c.own;
+          view = ap (λ (o : LocalOrder). o.view) c.good.drawn;
+          over = ap (λ (o : LocalOrder). o.parent) c.good.drawn;
+          lists_fit = ap (fits_chain (chain_state_of (record { setting = s; blocks = [] }) first_digest)) c.good.drawn
+              ∙ drawn_fits c.sealed.order.replica 1 first_digest (course.lists c.sealed.order.replica)
+              (chain_state_of (record { setting = s; blocks = [] }) first_digest);
+          seal_fits = subst (λ (x : ℕ). course.fits x (order_spelling c.sealed.order) c.sealed.seal ≡ true) c.own c.good.seal_fits;
+        })
 
     order_is_late : HasOrdered st → q ≤ k → (o : Outcome) → o ≡ turn_of course.fits (course.gives L) st (Deliver e.from e.bytes) → OrderTurns k e o
     order_is_late h following o is =
-        let same : o ≡ quiet (at L h.opens.rest h.opens.made h.opens.capacity) OldView = is ∙ order_turn_is (at L h.opens.rest h.opens.made h.opens.capacity) h.opens.is
-        ∙ order_late course.fits (course.gives L) s course.plan.views L (course.lists L) [] 1 from_one one_view refl k h.opens.rest c.sealed (is_order h.opens.rest h.ask_cert) h.asked h.opens.made h.opens.capacity h.opens.proposed_is in
+        let same : o ≡ quiet (at L h.opens.rest h.opens.made h.opens.capacity) OldView =
+        is ∙ order_turn_is (at L h.opens.rest h.opens.made h.opens.capacity) h.opens.is
+        ∙ order_late course.fits (course.gives L) s course.plan.views L (course.lists L) [] 1 from_one one_view refl k h.opens.rest c.sealed
+        (is_order h.opens.rest h.ask_cert) h.asked h.opens.made h.opens.capacity h.opens.proposed_is in
         subst (OrderTurns k e) (sym same) (record {
           parts = order_parts;
           state = ((λ less. absurd (omega (arith, less, following))), (λ above. subst HasOrdered h.opens.is h));
@@ -108,18 +115,23 @@ module _ (course : Course) (rests : Rests course) where
       not_proposed is = (let none : h.opens.rest.proposed ≡ 0 = h.opens.proposed_is in omega (arith, is, none))
 
       run2 : RunFrom orderer 0 (h.opens.rest.orders ++ c.sealed ∷ [])
-      run2 = run_more orderer 0 h.opens.rest.orders c.sealed h.run (let own : c.sealed.order.replica ≡ k = c.own in let m : length h.opens.rest.orders ≡ k = h.many in omega (arith, own, m))
+      run2 = run_more orderer 0 h.opens.rest.orders c.sealed h.run
+          (let own : c.sealed.order.replica ≡ k = c.own in let m : length h.opens.rest.orders ≡ k = h.many in omega (arith, own, m))
 
       many2 : length (h.opens.rest.orders ++ c.sealed ∷ []) ≡ suc k
-      many2 = (let l : length (h.opens.rest.orders ++ c.sealed ∷ []) ≡ length h.opens.rest.orders + 1 = length-append h.opens.rest.orders (c.sealed ∷ []) in let m : length h.opens.rest.orders ≡ k = h.many in omega (arith, l, m))
+      many2 =
+          (let l : length (h.opens.rest.orders ++ c.sealed ∷ []) ≡ length h.opens.rest.orders + 1 =
+          length-append h.opens.rest.orders (c.sealed ∷ []) in let m : length h.opens.rest.orders ≡ k = h.many in omega (arith, l, m))
 
       good2 : Each (IsGoodOrder course.fits s course.lists (Sealed course) []) (h.opens.rest.orders ++ c.sealed ∷ [])
       good2 = each_more (IsGoodOrder course.fits s course.lists (Sealed course) []) h.opens.rest.orders (c.sealed ∷ []) h.good (c.good, tt)
 
       order_is_kept : suc k < q → (o : Outcome) → o ≡ turn_of course.fits (course.gives L) st (Deliver e.from e.bytes) → OrderTurns k e o
       order_is_kept few o is =
-          let same : o ≡ quiet (at L kept_rest h.opens.made h.opens.capacity) Done = is ∙ order_turn_is (at L h.opens.rest h.opens.made h.opens.capacity) h.opens.is
-          ∙ order_kept course.fits (course.gives L) s course.plan.views L (course.lists L) [] 1 from_one one_view refl k h.opens.rest c.sealed (is_order h.opens.rest h.ask_cert) h.asked h.opens.made h.opens.capacity not_proposed h.run h.many
+          let same : o ≡ quiet (at L kept_rest h.opens.made h.opens.capacity) Done =
+          is ∙ order_turn_is (at L h.opens.rest h.opens.made h.opens.capacity) h.opens.is
+          ∙ order_kept course.fits (course.gives L) s course.plan.views L (course.lists L) [] 1 from_one one_view refl k h.opens.rest c.sealed
+          (is_order h.opens.rest h.ask_cert) h.asked h.opens.made h.opens.capacity not_proposed h.run h.many
           (let m : length h.opens.rest.orders ≡ k = h.many in omega (arith, m, few)) in
           subst (OrderTurns k e) (sym same) (record {
             parts = order_parts;
@@ -161,7 +173,8 @@ module _ (course : Course) (rests : Rests course) where
       abbrev proposing : Cert → Outcome
       proposing x = record {
         reported = reported (at L block_rest h.opens.made h.opens.capacity) Done (propose_spelling L (first_block x) ∷ [])
-            (to_each (range_with_len 0 s.n) (message_spelling (sent.Propose L (first_block x) (course.gives L h.opens.made (propose_spelling L (first_block x))))));
+            (to_each (range_with_len 0 s.n)
+            (message_spelling (sent.Propose L (first_block x) (course.gives L h.opens.made (propose_spelling L (first_block x))))));
         state = at L block_rest (h.opens.made + 1) h.opens.capacity;
       }
 
@@ -178,11 +191,14 @@ module _ (course : Course) (rests : Rests course) where
         orders = good2;
       }
 
-      order_is_last : suc k ≡ q → (o : Outcome) → o ≡ turn_of course.fits (course.gives L) st (Deliver e.from e.bytes) → Has course L (Deliver e.from e.bytes) o.reported → OrderTurns k e o
+      order_is_last : suc k ≡ q → (o : Outcome) → o ≡ turn_of course.fits (course.gives L) st (Deliver e.from e.bytes)
+          → Has course L (Deliver e.from e.bytes) o.reported → OrderTurns k e o
       order_is_last now o is happened =
           let same : o ≡ proposing first_cert = is ∙ order_turn_is (at L h.opens.rest h.opens.made h.opens.capacity) h.opens.is
-          ∙ order_last course.fits (course.gives L) s course.plan.views L (course.lists L) [] 1 from_one one_view refl k h.opens.rest c.sealed (is_order h.opens.rest h.ask_cert) h.asked h.opens.made h.opens.capacity not_proposed h.run h.many
-          (let m : length h.opens.rest.orders ≡ k = h.many in omega (arith, m, now)) (let m : h.opens.made ≤ 3 = h.opens.few_made in let x : 20 ≤ h.opens.capacity = h.opens.room in omega (arith, m, x))
+          ∙ order_last course.fits (course.gives L) s course.plan.views L (course.lists L) [] 1 from_one one_view refl k h.opens.rest c.sealed
+          (is_order h.opens.rest h.ask_cert) h.asked h.opens.made h.opens.capacity not_proposed h.run h.many
+          (let m : length h.opens.rest.orders ≡ k = h.many in omega (arith, m, now))
+          (let m : h.opens.made ≤ 3 = h.opens.few_made in let x : 20 ≤ h.opens.capacity = h.opens.room in omega (arith, m, x))
           ∙ ap proposing h.ask_cert in
           subst (λ (x : Outcome). Has course L (Deliver e.from e.bytes) x.reported → OrderTurns k e x) (sym same)
           (λ happens. record {
@@ -214,7 +230,9 @@ module _ (course : Course) (rests : Rests course) where
             else = λ other. absurd (other now);
           }) happened
 
-  order_turn : (k : ℕ) (e : Envelope) (st : State) (o : Outcome) → k < s.n → Orders course k e → OrderCount k st → o ≡ turn_of course.fits (course.gives L) st (Deliver e.from e.bytes) → Has course L (Deliver e.from e.bytes) o.reported → OrderTurns k e o
+  order_turn : (k : ℕ) (e : Envelope) (st : State) (o : Outcome)
+      → k < s.n → Orders course k e → OrderCount k st → o ≡ turn_of course.fits (course.gives L) st (Deliver e.from e.bytes)
+      → Has course L (Deliver e.from e.bytes) o.reported → OrderTurns k e o
   order_turn k e st o inside b c is happened = by (compared k q)
     where
       by : (suc k < q) ⊎ ((suc k ≡ q) ⊎ (q ≤ k)) → OrderTurns k e o
@@ -248,7 +266,8 @@ module _ (course : Course) (rests : Rests course) where
         each = λ j r found. (let both = gv.each j r found in (
           both.0,
           elim (cases_eq j L) [
-            | inl same ↦ subst (λ (x : ℕ). Ready course [] x r.state) (sym same) (opens_ready 1 1 4 L r.state (omega arith) ((both.1.0 same).1 rests.few_wanted).opens)
+            | inl same ↦ subst (λ (x : ℕ). Ready course [] x r.state) (sym same)
+                (opens_ready 1 1 4 L r.state (omega arith) ((both.1.0 same).1 rests.few_wanted).opens)
             | inr other ↦ opens_ready 1 0 3 j r.state (omega arith) (both.1.1 other).opens
           ],
         ));
@@ -261,7 +280,15 @@ module _ (course : Course) (rests : Rests course) where
           both.0,
           (
             (λ same. (let a : Asked course 1 0 3 L r.state = subst (λ (x : ℕ). Asked course 1 0 3 x r.state) same both.1 in let lead = a.lead refl in (
-              (λ less. record { opens = a.opens; asked = lead.0; ask_cert = lead.1; run = subst (RunFrom orderer 0) (sym lead.2) tt; many = ap length lead.2; good = subst (Each (IsGoodOrder course.fits s course.lists (Sealed course) [])) (sym lead.2) tt }),
+              (λ less.
+                  record {
+                    opens = a.opens;
+                    asked = lead.0;
+                    ask_cert = lead.1;
+                    run = subst (RunFrom orderer 0) (sym lead.2) tt;
+                    many = ap length lead.2;
+                    good = subst (Each (IsGoodOrder course.fits s course.lists (Sealed course) [])) (sym lead.2) tt;
+                  }),
               (λ above. absurd (let x : 1 ≤ q = rests.wanted in omega (arith, above, x))),
             ))),
             (λ other. both.1),

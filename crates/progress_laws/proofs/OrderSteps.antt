@@ -21,7 +21,8 @@ use Rattle.progress_laws.proofs.ReplicaLists.{RunFrom, goes_to_end, none_yet}
 use Rattle.progress_laws.proofs.VoteSteps.{orderer}
 use Rattle.agreement_laws.proofs.Digests.{true_same}
 
-module _ (fits : Check) (gives : Gives) (s : Parameters) (views me : ℕ) (list : List Tx) (bs : List Block) (v : ℕ) (some : 1 ≤ v) (inside : v ≤ views) (leads : leader_of s v ≡ me) where
+module _ (fits : Check) (gives : Gives) (s : Parameters) (views me : ℕ) (list : List Tx) (bs : List Block) (v : ℕ) (some : 1 ≤ v)
+    (inside : v ≤ views) (leads : leader_of s v ≡ me) where
   abbrev before : Rest → Known
   before rest = standing s views me list bs v rest
 
@@ -35,7 +36,8 @@ module _ (fits : Check) (gives : Gives) (s : Parameters) (views me : ℕ) (list 
 
   module _ (replica : ℕ) (rest : Rest) (sealed : SealedOrder) (is : IsOrder replica rest.ask_cert.block sealed) (asked : rest.asked ≡ v) where
     -- An order after the proposal has no effect.
-    pub order_late : (made capacity : ℕ) → rest.proposed ≡ v → on_order fits gives (state_at (before rest) made capacity) replica sealed ≡ quiet (state_at (before rest) made capacity) OldView
+    pub order_late : (made capacity : ℕ) → rest.proposed ≡ v
+        → on_order fits gives (state_at (before rest) made capacity) replica sealed ≡ quiet (state_at (before rest) made capacity) OldView
     order_late made capacity proposed = rw (
       eq_yes sealed.order.replica replica is.own,
       lt_yes 0 sealed.order.view (omega (arith, is.view, some)),
@@ -50,12 +52,14 @@ module _ (fits : Check) (gives : Gives) (s : Parameters) (views me : ℕ) (list 
     in_time fresh = passes_all (order_rows fits (before rest) replica sealed) (
       not_from_true _ (eq_yes sealed.order.replica replica is.own),
       (
-        not_from_true _ (and_from _ _ (lt_yes 0 sealed.order.view (omega (arith, is.view, some))) (le_yes sealed.order.view views (omega (arith, is.view, inside)))),
+        not_from_true _ (and_from _ _ (lt_yes 0 sealed.order.view (omega (arith, is.view, some)))
+            (le_yes sealed.order.view views (omega (arith, is.view, inside)))),
         (
           not_from_true _ (eq_yes _ me (ap (leader_of s) is.view ∙ leads)),
           (
             or_from _ _ (not_from_true _ (eq_yes sealed.order.view rest.asked (omega (arith, is.view, asked))))
-                (or_from _ _ (lt_no sealed.order.view v (omega (arith, is.view))) (eq_no sealed.order.view rest.proposed (λ same. fresh (omega (arith, same, is.view))))),
+                (or_from _ _ (lt_no sealed.order.view v (omega (arith, is.view)))
+                (eq_no sealed.order.view rest.proposed (λ same. fresh (omega (arith, same, is.view))))),
             (
               not_from_true _ is.seal_fits,
               (
@@ -84,11 +88,18 @@ module _ (fits : Check) (gives : Gives) (s : Parameters) (views me : ℕ) (list 
     more = length-append rest.orders (sealed ∷ [])
 
     -- An order that does not complete the quorum is stored.
-    pub order_kept : (made capacity : ℕ) → (rest.proposed ≡ v → ⊥) → RunFrom orderer 0 rest.orders → length rest.orders ≡ replica → length rest.orders + 1 < quorum_of s
-        → on_order fits gives (state_at (before rest) made capacity) replica sealed ≡ quiet (state_at (before (record rest { orders = rest.orders ++ sealed ∷ [] })) made capacity) Done
+    pub order_kept : (made capacity : ℕ) → (rest.proposed ≡ v → ⊥) → RunFrom orderer 0 rest.orders → length rest.orders ≡ replica
+        → length rest.orders + 1 < quorum_of s
+        → on_order fits gives (state_at (before rest) made capacity) replica sealed
+        ≡ quiet (state_at (before (record rest { orders = rest.orders ++ sealed ∷ [] })) made capacity) Done
     unfolding order_done
     order_kept made capacity fresh run turn few =
-        rw (in_time fresh, not_yet run (omega (arith, turn)), at_end run turn, eq_no (length (rest.orders ++ sealed ∷ [])) (quorum_of s) (λ same. omega (arith, same, more, few)))
+        rw (
+          in_time fresh,
+          not_yet run (omega (arith, turn)),
+          at_end run turn,
+          eq_no (length (rest.orders ++ sealed ∷ [])) (quorum_of s) (λ same. omega (arith, same, more, few)),
+        )
 
     abbrev pub block : Block
     block = record { view = v; cert = rest.ask_cert; orders = rest.orders ++ sealed ∷ [] }
@@ -97,7 +108,8 @@ module _ (fits : Check) (gives : Gives) (s : Parameters) (views me : ℕ) (list 
     after_block = record rest { proposed = v; orders = [] }
 
     -- With the order that completes the quorum the block is proposed.
-    pub order_last : (made capacity : ℕ) → (rest.proposed ≡ v → ⊥) → RunFrom orderer 0 rest.orders → length rest.orders ≡ replica → length rest.orders + 1 ≡ quorum_of s → made < capacity
+    pub order_last : (made capacity : ℕ) → (rest.proposed ≡ v → ⊥) → RunFrom orderer 0 rest.orders → length rest.orders ≡ replica
+        → length rest.orders + 1 ≡ quorum_of s → made < capacity
         → on_order fits gives (state_at (before rest) made capacity) replica sealed
         ≡ record {
           reported = reported (state_at (before after_block) made capacity) Done (propose_spelling me block ∷ [])

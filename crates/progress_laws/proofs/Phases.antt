@@ -51,7 +51,8 @@ pub compared : (a b : ℕ) → (suc a < b) ⊎ ((suc a ≡ b) ⊎ (b ≤ a))
 compared a zero = inr (inr (omega arith))
 compared zero (suc zero) = inr (inl refl)
 compared zero (suc (suc b)) = inl (omega arith)
-compared (suc a) (suc b) = elim (compared a b) [ inl x ↦ inl (omega (arith, x)) | inr y ↦ elim y [ inl z ↦ inr (inl (omega (arith, z))) | inr z ↦ inr (inr (omega (arith, z))) ] ]
+compared (suc a) (suc b) =
+    elim (compared a b) [ inl x ↦ inl (omega (arith, x)) | inr y ↦ elim y [ inl z ↦ inr (inl (omega (arith, z))) | inr z ↦ inr (inr (omega (arith, z))) ] ]
 
 -- this many more steps
 abbrev pub up : ℕ → ℕ → ℕ
@@ -133,7 +134,8 @@ module _ (course : Course) where
 
   pub deliver : (P Q : ℕ → State → Type 0) (w : World) (e : Envelope) (rest : List Envelope) (steps : ℕ)
       → Going P w → w.queue ≡ e ∷ rest → e.to < n → w.turns < 10 * n
-      → ((st : State) → P e.to st → (o : Outcome) → o ≡ turn_of course.fits (course.gives e.to) st (Deliver e.from e.bytes) → Happened e.to (Deliver e.from e.bytes) o.reported → Delivery P Q w e rest steps o)
+      → ((st : State) → P e.to st → (o : Outcome) → o ≡ turn_of course.fits (course.gives e.to) st (Deliver e.from e.bytes)
+      → Happened e.to (Deliver e.from e.bytes) o.reported → Delivery P Q w e rest steps o)
       → ((j : ℕ) (st : State) → (e.to ≡ j → ⊥) → P j st → Q j st)
       → Ends (suc steps) w
   unfolding sent_all
@@ -163,7 +165,8 @@ module _ (course : Course) where
           let v : World = world_after w0 e.to r ev o passed in
           let is_v : event_at course.fits course.plan w0 e.to ev ≡ v = event_is course.fits course.plan course.faulty w0 e.to ev r found in
           let ends : run_for course.fits course.plan v steps ≡ course.last =
-          ap (λ (x : World). run_for course.fits course.plan x steps) (sym is_v) ∙ sym (run_delivers course.fits course.plan w steps e rest (none_left P w g) wants (omega (arith, turns, course.enough)) queue) ∙ is_F in
+          ap (λ (x : World). run_for course.fits course.plan x steps) (sym is_v)
+          ∙ sym (run_delivers course.fits course.plan w steps e rest (none_left P w g) wants (omega (arith, turns, course.enough)) queue) ∙ is_F in
           let new : Replica = following r ev o passed.links in
           let at_v : slice_get v.replicas e.to ≡ Some new = get_set w.replicas e.to new r found in
           let grew : Grew v course.last = subst (Grew v) ends (grew_run course.fits course.plan course.faulty v steps) in
@@ -180,7 +183,13 @@ module _ (course : Course) where
             count = length_set w.replicas e.to new ∙ g.count;
             each = λ j y at_j. elim (set_cases w.replicas e.to j new y at_j) [
               | inl p ↦ subst (λ (z : Replica). Common j z × Q j z.state) p.1 (subst (λ (k : ℕ). Common k new × Q k new.state) p.0 (
-                record { gives_is = common.gives_is; left = common.left; txs = common.txs; links = pass.links; sealed = each_more (λ (x : Entry). AreSealed x.event) r.journal (record { event = ev; turned = o.reported } ∷ []) common.sealed (d.parts, tt) },
+                record {
+                  gives_is = common.gives_is;
+                  left = common.left;
+                  txs = common.txs;
+                  links = pass.links;
+                  sealed = each_more (λ (x : Entry). AreSealed x.event) r.journal (record { event = ev; turned = o.reported } ∷ []) common.sealed (d.parts, tt);
+                },
                 d.state,
               ))
               | inr p ↦ (let old = g.each j y p.1 in (old.0, stays j y.state p.0 old.1))
@@ -206,14 +215,17 @@ module _ (course : Course) where
     HaveBefore k j st = (j < k → Q j st) × (k ≤ j → P j st)
 
     module _ (to : (i : ℕ) (e : Envelope) → M i e → e.to ≡ i)
-        (turn : (i : ℕ) (e : Envelope) (st : State) (o : Outcome) → i < n → M i e → P i st → o ≡ turn_of course.fits (course.gives i) st (Deliver e.from e.bytes) → Happened i (Deliver e.from e.bytes) o.reported → OutTurn i e o)
+        (turn : (i : ℕ) (e : Envelope) (st : State) (o : Outcome) → i < n → M i e → P i st → o
+        ≡ turn_of course.fits (course.gives i) st (Deliver e.from e.bytes) → Happened i (Deliver e.from e.bytes) o.reported → OutTurn i e o)
         (steps last : ℕ) (few : last ≤ 10 * n) (next : (v : World) → Going Q v → Queue N 0 n v.queue → v.turns ≡ last → Ends steps v) where
-      out_from : (m k : ℕ) → k + m ≡ n → (w : World) → Going (HaveBefore k) w → (rest outs : List Envelope) → w.queue ≡ rest ++ outs → Queue M k m rest → Queue N 0 k outs → w.turns + m ≡ last → Ends (up m steps) w
+      out_from : (m k : ℕ) → k + m ≡ n → (w : World) → Going (HaveBefore k) w → (rest outs : List Envelope) → w.queue ≡ rest ++ outs
+          → Queue M k m rest → Queue N 0 k outs → w.turns + m ≡ last → Ends (up m steps) w
       out_from zero k all w g [] outs queue q sent turns =
           let is_n : k ≡ n = omega (arith, all) in
           next w (record {
             count = g.count;
-            each = λ j r found. (let both = g.each j r found in (both.0, both.1.0 (let inside : j < length w.replicas = slice_get_within w.replicas j r found in omega (arith, inside, g.count, is_n))));
+            each = λ j r found. (let both = g.each j r found in
+                (both.0, both.1.0 (let inside : j < length w.replicas = slice_get_within w.replicas j r found in omega (arith, inside, g.count, is_n))));
             ticks = g.ticks;
             due = g.due;
           }) (subst (λ (es : List Envelope). Queue N 0 n es) (sym queue) (subst (λ (x : ℕ). Queue N 0 x outs) is_n sent)) (omega (arith, turns))
@@ -223,7 +235,8 @@ module _ (course : Course) where
           let to_k : e.to ≡ k = to k e q.0 in
           deliver (HaveBefore k) (HaveBefore (suc k)) w e (rest ++ outs) (up m steps) g queue (omega (arith, to_k, all)) (omega (arith, turns, few))
           (λ st before o is happened.
-          let t : OutTurn k e o = turn k e st o (omega (arith, all)) q.0 (subst (λ (x : ℕ). P x st) to_k (before.1 (omega (arith, to_k)))) (is ∙ ap (λ (x : ℕ). turn_of course.fits (course.gives x) st (Deliver e.from e.bytes)) to_k)
+          let t : OutTurn k e o = turn k e st o (omega (arith, all)) q.0 (subst (λ (x : ℕ). P x st) to_k (before.1 (omega (arith, to_k))))
+          (is ∙ ap (λ (x : ℕ). turn_of course.fits (course.gives x) st (Deliver e.from e.bytes)) to_k)
           (subst (λ (x : ℕ). Happened x (Deliver e.from e.bytes) o.reported) to_k happened) in
           record {
             parts = t.parts;
@@ -231,7 +244,8 @@ module _ (course : Course) where
             state = ((λ below. subst (λ (x : ℕ). Q x o.state) (sym to_k) t.state), (λ above. absurd (omega (arith, above, to_k))));
             next = λ v gv queue_v turns_v.
                 out_from m (suc k) (omega (arith, all)) v gv rest (outs ++ envelope k t.send ∷ [])
-                (queue_v ∙ ap (λ (ss : List Outgoing). (rest ++ outs) ++ map (envelope e.to) ss) t.sends ∙ ap (λ (x : ℕ). (rest ++ outs) ++ envelope x t.send ∷ []) to_k ∙ append_assoc rest outs (envelope k t.send ∷ []))
+                (queue_v ∙ ap (λ (ss : List Outgoing). (rest ++ outs) ++ map (envelope e.to) ss) t.sends
+                ∙ ap (λ (x : ℕ). (rest ++ outs) ++ envelope x t.send ∷ []) to_k ∙ append_assoc rest outs (envelope k t.send ∷ []))
                 q.1 (queue_more N 0 k outs (envelope k t.send) sent (let same : 0 + k ≡ k = omega arith in rw same t.sent)) (omega (arith, turns, turns_v));
           })
           (λ j st other before. (
@@ -241,11 +255,18 @@ module _ (course : Course) where
 
       pub fan_out : (w : World) → Going P w → Queue M 0 n w.queue → w.turns + n ≡ last → Ends (up n steps) w
       fan_out w g queue turns =
-          out_from n 0 (omega arith) w (record { count = g.count; each = λ j r found. (let both = g.each j r found in (both.0, ((λ below. absurd (omega (arith, below))), (λ above. both.1)))); ticks = g.ticks; due = g.due })
+          out_from n 0 (omega arith) w
+          (record {
+            count = g.count;
+            each = λ j r found. (let both = g.each j r found in (both.0, ((λ below. absurd (omega (arith, below))), (λ above. both.1))));
+            ticks = g.ticks;
+            due = g.due;
+          })
           w.queue [] (sym (append-nil w.queue)) queue tt turns
 
   -- one envelope from each replica, all to one replica, which sends when the last needed one is delivered
-  module _ (L : ℕ) (inside : L < n) (q : ℕ) (wanted : 1 ≤ q) (enough_come : q ≤ n) (P S : ℕ → State → Type 0) (M : ℕ → Envelope → Type 0) (N : List Envelope → Type 0) where
+  module _ (L : ℕ) (inside : L < n) (q : ℕ) (wanted : 1 ≤ q) (enough_come : q ≤ n) (P S : ℕ → State → Type 0) (M : ℕ → Envelope → Type 0)
+      (N : List Envelope → Type 0) where
     pub record InTurn (k : ℕ) (e : Envelope) (o : Outcome) : Type 0 where
       pub parts : AreSealed (Deliver e.from e.bytes)
       pub state : S (suc k) o.state
@@ -258,12 +279,14 @@ module _ (course : Course) where
     HasHad k j st = (j ≡ L → S k st) × ((j ≡ L → ⊥) → P j st)
 
     module _ (to : (i : ℕ) (e : Envelope) → M i e → e.to ≡ L)
-        (turn : (k : ℕ) (e : Envelope) (st : State) (o : Outcome) → k < n → M k e → S k st → o ≡ turn_of course.fits (course.gives L) st (Deliver e.from e.bytes) → Happened L (Deliver e.from e.bytes) o.reported → InTurn k e o)
+        (turn : (k : ℕ) (e : Envelope) (st : State) (o : Outcome) → k < n → M k e → S k st → o
+        ≡ turn_of course.fits (course.gives L) st (Deliver e.from e.bytes) → Happened L (Deliver e.from e.bytes) o.reported → InTurn k e o)
         (steps last : ℕ) (few : last ≤ 10 * n) (next : (v : World) → Going (HasHad n) v → N v.queue → v.turns ≡ last → Ends steps v) where
       abbrev Outs : ℕ → List Envelope → Type 0
       Outs k outs = (k < q → outs ≡ []) × (q ≤ k → N outs)
 
-      in_from : (m k : ℕ) → k + m ≡ n → (w : World) → Going (HasHad k) w → (rest outs : List Envelope) → w.queue ≡ rest ++ outs → Queue M k m rest → Outs k outs → w.turns + m ≡ last → Ends (up m steps) w
+      in_from : (m k : ℕ) → k + m ≡ n → (w : World) → Going (HasHad k) w → (rest outs : List Envelope) → w.queue ≡ rest ++ outs
+          → Queue M k m rest → Outs k outs → w.turns + m ≡ last → Ends (up m steps) w
       in_from zero k all w g [] outs queue qs sent turns =
           let is_n : k ≡ n = omega (arith, all) in
           next w (subst (λ (x : ℕ). Going (HasHad x) w) is_n g) (subst N (sym queue) (sent.1 (omega (arith, is_n, enough_come)))) (omega (arith, turns))
@@ -273,7 +296,8 @@ module _ (course : Course) where
           let to_L : e.to ≡ L = to k e qs.0 in
           deliver (HasHad k) (HasHad (suc k)) w e (rest ++ outs) (up m steps) g queue (omega (arith, to_L, inside)) (omega (arith, turns, few))
           (λ st before o is happened.
-          let t : InTurn k e o = turn k e st o (omega (arith, all)) qs.0 (before.0 to_L) (is ∙ ap (λ (x : ℕ). turn_of course.fits (course.gives x) st (Deliver e.from e.bytes)) to_L)
+          let t : InTurn k e o = turn k e st o (omega (arith, all)) qs.0 (before.0 to_L)
+          (is ∙ ap (λ (x : ℕ). turn_of course.fits (course.gives x) st (Deliver e.from e.bytes)) to_L)
           (subst (λ (x : ℕ). Happened x (Deliver e.from e.bytes) o.reported) to_L happened) in
           record {
             parts = t.parts;
@@ -281,12 +305,14 @@ module _ (course : Course) where
             state = ((λ here. t.state), (λ other. absurd (other to_L)));
             next = λ v gv queue_v turns_v.
                 in_from m (suc k) (omega (arith, all)) v gv rest (outs ++ map (envelope L) o.reported.sends)
-                (queue_v ∙ ap (λ (x : ℕ). (rest ++ outs) ++ map (envelope x) o.reported.sends) to_L ∙ append_assoc rest outs (map (envelope L) o.reported.sends))
+                (queue_v ∙ ap (λ (x : ℕ). (rest ++ outs) ++ map (envelope x) o.reported.sends) to_L
+                ∙ append_assoc rest outs (map (envelope L) o.reported.sends))
                 qs.1 (more_outs k outs o.reported.sends sent t.at_last t.else) (omega (arith, turns, turns_v));
           })
           (λ j st other before. ((λ here. absurd (other (to_L ∙ sym here))), before.1))
         where
-          more_outs : (k : ℕ) (outs : List Envelope) (sends : List Outgoing) → Outs k outs → (suc k ≡ q → N (map (envelope L) sends)) → ((suc k ≡ q → ⊥) → sends ≡ []) → Outs (suc k) (outs ++ map (envelope L) sends)
+          more_outs : (k : ℕ) (outs : List Envelope) (sends : List Outgoing) → Outs k outs → (suc k ≡ q → N (map (envelope L) sends))
+              → ((suc k ≡ q → ⊥) → sends ≡ []) → Outs (suc k) (outs ++ map (envelope L) sends)
           more_outs k outs sends sent at_last else = elim (cases_eq (suc k) q) [
             | inl now ↦ (
               (λ less. absurd (omega (arith, less, now))),

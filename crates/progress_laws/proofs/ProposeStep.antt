@@ -36,7 +36,8 @@ order_over s me view list bs parent = order_drawn me view parent list (chain_sta
 abbrev pub after_vote : Block → Rest → Rest
 after_vote b rest = record (saw b.cert rest) { ordered = b.view + 1; voted = b.view }
 
-module _ (fits : Check) (gives : Gives) (s : Parameters) (views me : ℕ) (list : List Tx) (bs : List Block) (chain : IsChain bs) (b : Block) (due : IsDue fits s bs b) where
+module _ (fits : Check) (gives : Gives) (s : Parameters) (views me : ℕ) (list : List Tx) (bs : List Block) (chain : IsChain bs) (b : Block)
+    (due : IsDue fits s bs b) where
   abbrev before : Rest → Known
   before rest = standing s views me list bs b.view rest
 
@@ -46,7 +47,8 @@ module _ (fits : Check) (gives : Gives) (s : Parameters) (views me : ℕ) (list 
   abbrev pub order : LocalOrder
   order = order_over s me (b.view + 1) list (bs ++ b ∷ []) (block_digest b)
 
-  takes : (rest : Rest) → suc rest.high.view ≤ b.view → taken b (before rest) ≡ record (standing s views me list bs b.view (saw b.cert rest)) { store = bs ++ b ∷ [] }
+  takes : (rest : Rest) → suc rest.high.view ≤ b.view
+      → taken b (before rest) ≡ record (standing s views me list bs b.view (saw b.cert rest)) { store = bs ++ b ∷ [] }
   takes rest low =
       let cert : b.cert.view ≡ length bs = due.next.cert in
       let view : b.view ≡ suc (length bs) = due.next.view in
@@ -55,7 +57,8 @@ module _ (fits : Check) (gives : Gives) (s : Parameters) (views me : ℕ) (list 
       (sees s views me list bs chain b.view rest b.cert (omega (arith, cert, view)) (omega (arith, cert)) parent (omega (arith, cert, view, low)))
       ∙ ap (λ (store : List Block). record (standing s views me list bs b.view (saw b.cert rest)) { store = store }) (goes_last bs b due.next)
 
-  is_done : (p : Proposed) (from : ℕ) (rest : Rest) → p.block ≡ b → p.replica ≡ from → from ≡ leader_of s b.view → fits from (propose_spelling p.replica b) p.seal ≡ true → b.view ≤ views
+  is_done : (p : Proposed) (from : ℕ) (rest : Rest) → p.block ≡ b → p.replica ≡ from → from ≡ leader_of s b.view
+      → fits from (propose_spelling p.replica b) p.seal ≡ true → b.view ≤ views
       → suc rest.high.view ≤ b.view → suc rest.voted ≤ b.view → propose_reason fits (before rest) from p ≡ Done
   is_done p from rest block own leads sealed inside low voted =
       let cert : b.cert.view ≡ length bs = due.next.cert in
@@ -108,7 +111,8 @@ module _ (fits : Check) (gives : Gives) (s : Parameters) (views me : ℕ) (list 
         reported = reported (state_at (following rest) made capacity) Done (vote_spelling me b.view (block_digest b) ∷ order_spelling order ∷ [])
             (record {
               to = leader_of s (b.view + 1);
-              bytes = message_spelling (messages.Vote (record { replica = me; view = b.view; block = block_digest b; seal = gives made (vote_spelling me b.view (block_digest b)) })
+              bytes = message_spelling
+                  (messages.Vote (record { replica = me; view = b.view; block = block_digest b; seal = gives made (vote_spelling me b.view (block_digest b)) })
                   (Some (record { order = order; seal = gives (made + 1) (order_spelling order) })));
             } ∷ []);
         state = state_at (following rest) (made + 1 + 1) capacity;
@@ -139,7 +143,8 @@ module _ (fits : Check) (gives : Gives) (s : Parameters) (views me : ℕ) (list 
         reported = reported (state_at (after_last rest) made capacity) Done (vote_spelling me b.view (block_digest b) ∷ [])
             (record {
               to = leader_of s (b.view + 1);
-              bytes = message_spelling (messages.Vote (record { replica = me; view = b.view; block = block_digest b; seal = gives made (vote_spelling me b.view (block_digest b)) }) None);
+              bytes = message_spelling (messages.Vote
+                  (record { replica = me; view = b.view; block = block_digest b; seal = gives made (vote_spelling me b.view (block_digest b)) }) None);
             } ∷ []);
         state = state_at (after_last rest) (made + 1) capacity;
       }

@@ -22,13 +22,15 @@ run_more key i (y ∷ ys) x run is = (run.0, run_more key (suc i) ys x run.1 (om
 
 filter_run : {X : Type 0} (key : X → ℕ) (i r : ℕ) (xs : List X) → RunFrom key i xs → r ≡ i + length xs → filter (λ o. nat_lt (key o) r) xs ≡ xs
 filter_run key i r [] run is = refl
-filter_run key i r (y ∷ ys) run is = rw (lt_yes (key y) r (omega (arith, run.0, is))) (ap (λ zs. y ∷ zs) (filter_run key (suc i) r ys run.1 (omega (arith, is))))
+filter_run key i r (y ∷ ys) run is =
+    rw (lt_yes (key y) r (omega (arith, run.0, is))) (ap (λ zs. y ∷ zs) (filter_run key (suc i) r ys run.1 (omega (arith, is))))
 
 count_run : {X : Type 0} (key : X → ℕ) (i r : ℕ) (xs : List X) → RunFrom key i xs → r ≡ i + length xs → count_by (λ o. nat_lt (key o) r) xs ≡ length xs
 count_run key i r xs run is = sym (length-filter (λ o. nat_lt (key o) r) xs) ∙ ap length (filter_run key i r xs run is)
 
 -- the next item is inserted at the end
-pub goes_to_end : {X : Type 0} (key : X → ℕ) (i r : ℕ) (xs : List X) (x : X) → RunFrom key i xs → r ≡ i + length xs → insert xs (count_by (λ o. nat_lt (key o) r) xs) x ≡ xs ++ x ∷ []
+pub goes_to_end : {X : Type 0} (key : X → ℕ) (i r : ℕ) (xs : List X) (x : X) → RunFrom key i xs → r ≡ i + length xs
+    → insert xs (count_by (λ o. nat_lt (key o) r) xs) x ≡ xs ++ x ∷ []
 goes_to_end key i r xs x run is = rw (count_run key i r xs run is) (insert_end xs x)
 
 -- the next replica has no item yet

@@ -22,14 +22,16 @@ abbrev pub NoneLeft : World → Type 0
 NoneLeft w = (i : ℕ) (r : Replica) → slice_get w.replicas i ≡ Some r → r.feed.left ≡ []
 
 fed_same : (turns : ℕ) (r : Replica) → r.feed.left ≡ [] → record r { feed = after_giving turns r.feed } ≡ r
-fed_same turns r none = ap (λ (left : List TimedTx). record r { feed = record { txs = r.feed.txs; left = left } }) (ap (λ (left : List TimedTx). drop (count_by_now turns left) left) none ∙ sym none)
+fed_same turns r none = ap (λ (left : List TimedTx). record r { feed = record { txs = r.feed.txs; left = left } })
+    (ap (λ (left : List TimedTx). drop (count_by_now turns left) left) none ∙ sym none)
 
 module _ (fits : Check) (plan : Plan) where
   given_none : (w : World) (at : ℕ) → NoneLeft w → given_at fits plan w at ≡ w
   unfolding taken_at arrived_at
   given_none w at none = by (slice_get w.replicas at) refl
     where
-      by : (o : Option Replica) → slice_get w.replicas at ≡ o → reported_arrived fits plan (taken_for w at o) at (option_map_or (λ r. arrived w.turns r.feed) o []) ≡ w
+      by : (o : Option Replica) → slice_get w.replicas at ≡ o
+          → reported_arrived fits plan (taken_for w at o) at (option_map_or (λ r. arrived w.turns r.feed) o []) ≡ w
       by None is = refl
       by (Some r) is =
           let empty : arrived w.turns r.feed ≡ [] = rw (none at r is) in
@@ -59,6 +61,8 @@ module _ (fits : Check) (plan : Plan) where
   pub run_done : (w : World) (steps : ℕ) → NoneLeft w → has_all_due plan w ≡ true → run_for fits plan w (suc steps) ≡ w
   run_done w steps none done = rw (step_done w none done)
 
-  pub run_delivers : (w : World) (steps : ℕ) (e : Envelope) (rest : List Envelope) → NoneLeft w → has_all_due plan w ≡ false → w.turns < plan.turns → w.queue ≡ e ∷ rest
-      → run_for fits plan w (suc steps) ≡ run_for fits plan (event_at fits plan (record w { queue = rest; turns = w.turns + 1 }) e.to (Deliver e.from e.bytes)) steps
+  pub run_delivers : (w : World) (steps : ℕ) (e : Envelope) (rest : List Envelope) → NoneLeft w → has_all_due plan w ≡ false
+      → w.turns < plan.turns → w.queue ≡ e ∷ rest
+      → run_for fits plan w (suc steps)
+      ≡ run_for fits plan (event_at fits plan (record w { queue = rest; turns = w.turns + 1 }) e.to (Deliver e.from e.bytes)) steps
   run_delivers w steps e rest none wants few queue = rw (step_delivers w e rest none wants few queue)

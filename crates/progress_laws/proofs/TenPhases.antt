@@ -42,10 +42,12 @@ module _ (course : Course) (rests : Rests course) where
 
   -- The block of view 1 proposes all due transactions, and is complete.
   abbrev pub IsWhole : Type 0
-  IsWhole = (bs : List Block) (b : Block) → IsChain bs → slice_get bs 0 ≡ Some b → IsMadeOn [] b → hold_all (finals (chain_state_of (record { setting = s; blocks = bs }) (digest_at bs 1))) course.due ≡ true
+  IsWhole = (bs : List Block) (b : Block) → IsChain bs → slice_get bs 0 ≡ Some b → IsMadeOn [] b
+      → hold_all (finals (chain_state_of (record { setting = s; blocks = bs }) (digest_at bs 1))) course.due ≡ true
 
   -- If all replicas have committed it, the run is done.
-  ends_done : IsWhole → (bs : List Block) (b : Block) → IsChain bs → slice_get bs 0 ≡ Some b → IsMadeOn [] b → (v : World) → Go (HasCommitted course rests bs 3) v → has_all_due course.plan v ≡ true
+  ends_done : IsWhole → (bs : List Block) (b : Block) → IsChain bs → slice_get bs 0 ≡ Some b → IsMadeOn [] b → (v : World)
+      → Go (HasCommitted course rests bs 3) v → has_all_due course.plan v ≡ true
   unfolding has_all_due holds_due
   ends_done whole bs b chain first made v g = all_pass (λ at. is_among course.plan.faulty at || holds_due_at v at) (everyone course.plan)
       (each_is _ (everyone course.plan) (λ at. or_right (is_among course.plan.faulty at) (holds_due_at v at) (by at (slice_get v.replicas at) refl)))
@@ -78,7 +80,8 @@ module _ (course : Course) (rests : Rests course) where
       (λ w2 g2 q2 t2. order_phase course rests _ (3 * s.n) (omega arith)
       (λ w3 g3 p3 t3. one_view course rests [] no_chain (λ k a found. absurd (cc)) (omega arith) _ (3 * s.n) (5 * s.n) (omega arith) (omega arith)
       (λ b1 made1 next1 w4 chain4 come4 g4 p4 t4. one_view course rests (b1 ∷ []) chain4 come4 (omega arith) _ (5 * s.n) (7 * s.n) (omega arith) (omega arith)
-      (λ b2 made2 next2 w5 chain5 come5 g5 p5 t5. one_view course rests (b1 ∷ b2 ∷ []) chain5 come5 (omega arith) _ (7 * s.n) (9 * s.n) (omega arith) (omega arith)
+      (λ b2 made2 next2 w5 chain5 come5 g5 p5 t5.
+      one_view course rests (b1 ∷ b2 ∷ []) chain5 come5 (omega arith) _ (7 * s.n) (9 * s.n) (omega arith) (omega arith)
       (λ b3 made3 next3 w6 chain6 come6 g6 p6 t6. last_view b1 b2 b3 made1 chain6 come6 w6 g6 p6 t6)
       w5 g5 p5 t5)
       w4 g4 p4 t4)
@@ -88,10 +91,13 @@ module _ (course : Course) (rests : Rests course) where
       w g queue (omega (arith, none))
     where
       last_view : (b1 b2 b3 : Block) → IsMadeOn [] b1 → IsChain (b1 ∷ b2 ∷ b3 ∷ []) → AllCame course rests (b1 ∷ b2 ∷ b3 ∷ [])
-          → (v : World) → Go (IsReady course rests (b1 ∷ b2 ∷ b3 ∷ [])) v → Proposed course rests (b1 ∷ b2 ∷ b3 ∷ []) v.queue → v.turns ≡ 9 * s.n → End (phase (suc steps)) v
+          → (v : World) → Go (IsReady course rests (b1 ∷ b2 ∷ b3 ∷ [])) v → Proposed course rests (b1 ∷ b2 ∷ b3 ∷ []) v.queue
+          → v.turns ≡ 9 * s.n → End (phase (suc steps)) v
       last_view b1 b2 b3 made1 chain come v g p turns =
-          last_phase course rests (b1 ∷ b2 ∷ b3 ∷ []) chain come p.block p.made (omega arith) (let x : 4 ≤ course.plan.views = rests.views in omega (arith, x)) (suc steps) (10 * s.n) (omega arith)
+          last_phase course rests (b1 ∷ b2 ∷ b3 ∷ []) chain come p.block p.made (omega arith)
+          (let x : 4 ≤ course.plan.views = rests.views in omega (arith, x)) (suc steps) (10 * s.n) (omega arith)
           (λ x came gx turns_x is_F.
-          let chain2 : IsChain (b1 ∷ b2 ∷ b3 ∷ p.block ∷ []) = chain_more (b1 ∷ b2 ∷ b3 ∷ []) p.block (is_next course rests (b1 ∷ b2 ∷ b3 ∷ []) chain come p.block p.made came) chain in
+          let chain2 : IsChain (b1 ∷ b2 ∷ b3 ∷ p.block ∷ []) =
+          chain_more (b1 ∷ b2 ∷ b3 ∷ []) p.block (is_next course rests (b1 ∷ b2 ∷ b3 ∷ []) chain come p.block p.made came) chain in
           ends_at x gx (ends_done whole (b1 ∷ b2 ∷ b3 ∷ p.block ∷ []) b1 chain2 refl made1 x gx) (omega (arith, turns_x)) steps is_F)
           v g p.queue (omega (arith, turns))

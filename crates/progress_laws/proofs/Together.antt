@@ -33,7 +33,8 @@ use Rattle.progress_laws.proofs.Whole.{filter_all, chain_is, finalised}
 use Rattle.progress_laws.proofs.Items.{each_is, each_from_get, each_map, all_pass}
 use Rattle.progress_laws.proofs.Phases.{Course}
 
-items_pass : (p : List Tx → Bool) (honest : ℕ → Bool) (i : ℕ) (xs : List (List Tx)) → Each (λ x. p x ≡ true) xs → list_all p (map (λ (item : ℕ × List Tx). item.1) (honest_items honest i xs)) ≡ true
+items_pass : (p : List Tx → Bool) (honest : ℕ → Bool) (i : ℕ) (xs : List (List Tx)) → Each (λ x. p x ≡ true) xs
+    → list_all p (map (λ (item : ℕ × List Tx). item.1) (honest_items honest i xs)) ≡ true
 items_pass p honest i [] each = refl
 items_pass p honest i (x ∷ xs) each = by (honest i) (items_pass p honest (i + 1) xs each.1)
   where
@@ -57,12 +58,17 @@ module _ (laws : finishing.Laws) (more : whole.Laws) (setup : Setup) where
 
   -- ---- what is due
 
-  due_are : (xs : List Signer) → length xs ≡ s.n → ((k : ℕ) (x : Signer) → slice_get xs k ≡ Some x → IsSealerOf setup.fits k x) → due_of s.n setup.plan.faulty (map (λ (x : Signer). (feed_of setup.plan x.replica).txs) xs) ≡ all
+  due_are : (xs : List Signer) → length xs ≡ s.n → ((k : ℕ) (x : Signer) → slice_get xs k ≡ Some x → IsSealerOf setup.fits k x)
+      → due_of s.n setup.plan.faulty (map (λ (x : Signer). (feed_of setup.plan x.replica).txs) xs) ≡ all
   unfolding feed_of
   due_are [] count each = absurd (let some : 1 ≤ s.n = some_n in omega (arith, count, some))
   due_are (x ∷ xs) count each = rw first_honest (
-      filter_all (λ tx. list_all (holds tx) (map (λ (item : ℕ × List Tx). item.1) (honest_items (is_honest s.n setup.plan.faulty) 1 (map (λ (x : Signer). (feed_of setup.plan x.replica).txs) xs)))) (list_of setup.plan x.replica)
-      (each_from_get (λ tx. list_all (holds tx) (map (λ (item : ℕ × List Tx). item.1) (honest_items (is_honest s.n setup.plan.faulty) 1 (map (λ (x : Signer). (feed_of setup.plan x.replica).txs) xs))) ≡ true) (list_of setup.plan x.replica)
+      filter_all (λ tx. list_all (holds tx) (map (λ (item : ℕ × List Tx). item.1)
+      (honest_items (is_honest s.n setup.plan.faulty) 1 (map (λ (x : Signer). (feed_of setup.plan x.replica).txs) xs))))
+      (list_of setup.plan x.replica)
+      (each_from_get (λ tx. list_all (holds tx) (map (λ (item : ℕ × List Tx). item.1)
+      (honest_items (is_honest s.n setup.plan.faulty) 1 (map (λ (x : Signer). (feed_of setup.plan x.replica).txs) xs))) ≡ true)
+      (list_of setup.plan x.replica)
       (λ k tx found. items_pass (holds tx) (is_honest s.n setup.plan.faulty) 1 (map (λ (x : Signer). (feed_of setup.plan x.replica).txs) xs)
       (each_map (λ (x : Signer). (feed_of setup.plan x.replica).txs) (λ list. holds tx list ≡ true) xs
       (each_from_get (λ (y : Signer). holds tx (list_of setup.plan y.replica) ≡ true) xs (λ j y at_j.
@@ -77,11 +83,14 @@ module _ (laws : finishing.Laws) (more : whole.Laws) (setup : Setup) where
   due_is = due_are setup.sealers setup.made.count setup.made.each
 
   some_due : 1 ≤ length (start_of setup.plan setup.sealers).due
-  some_due = (let same : length (start_of setup.plan setup.sealers).due ≡ length all = ap length due_is in let some : 1 ≤ length all = setup.clean.some 0 (omega (arith, some_n)) in omega (arith, same, some))
+  some_due =
+      (let same : length (start_of setup.plan setup.sealers).due ≡ length all = ap length due_is in
+      let some : 1 ≤ length all = setup.clean.some 0 (omega (arith, some_n)) in omega (arith, same, some))
 
   -- ---- the whole
 
-  module _ (F : World) (is_F : run_for setup.fits setup.plan (start_of setup.plan setup.sealers) (steps_of setup.plan) ≡ F) (apart : IsCollided (record_of setup.plan F) → ⊥) where
+  module _ (F : World) (is_F : run_for setup.fits setup.plan (start_of setup.plan setup.sealers) (steps_of setup.plan) ≡ F)
+      (apart : IsCollided (record_of setup.plan F) → ⊥) where
     abbrev run_course : Course
     run_course = finishing.course laws setup F is_F apart
 
@@ -92,17 +101,20 @@ module _ (laws : finishing.Laws) (more : whole.Laws) (setup : Setup) where
     unfolding chain_state_of
     fresh_is o good =
         ap (λ (x : LocalOrder). x.fresh) good.drawn
-        ∙ ap (take 128) (filter_all (λ t. true) (list_of setup.plan o.order.replica) (each_is (λ t. true ≡ true) (list_of setup.plan o.order.replica) (λ t. refl)))
+        ∙ ap (take 128)
+        (filter_all (λ t. true) (list_of setup.plan o.order.replica) (each_is (λ t. true ≡ true) (list_of setup.plan o.order.replica) (λ t. refl)))
         ∙ take_all 128 (list_of setup.plan o.order.replica) (setup.clean.few o.order.replica good.below)
 
     fresh_short : (orders : List SealedOrder) → Each Good orders → Each (λ list. length list ≤ 128) (map (λ (o : SealedOrder). o.order.fresh) orders)
     fresh_short [] each = tt
     fresh_short (o ∷ orders) each = (
-      (let same : length o.order.fresh ≡ length (list_of setup.plan o.order.replica) = ap length (fresh_is o each.0) in let few : length (list_of setup.plan o.order.replica) ≤ 128 = setup.clean.few o.order.replica each.0.below in omega (arith, same, few)),
+      (let same : length o.order.fresh ≡ length (list_of setup.plan o.order.replica) = ap length (fresh_is o each.0) in
+          let few : length (list_of setup.plan o.order.replica) ≤ 128 = setup.clean.few o.order.replica each.0.below in omega (arith, same, few)),
       fresh_short orders each.1,
     )
 
-    fresh_same : (orders : List SealedOrder) → Each Good orders → Each (λ list. (t : Tx) → holds t list ≡ holds t all) (map (λ (o : SealedOrder). o.order.fresh) orders)
+    fresh_same : (orders : List SealedOrder) → Each Good orders
+        → Each (λ list. (t : Tx) → holds t list ≡ holds t all) (map (λ (o : SealedOrder). o.order.fresh) orders)
     fresh_same [] each = tt
     fresh_same (o ∷ orders) each = ((λ t. ap (holds t) (fresh_is o each.0) ∙ setup.clean.same o.order.replica each.0.below t), fresh_same orders each.1)
 
@@ -110,8 +122,11 @@ module _ (laws : finishing.Laws) (more : whole.Laws) (setup : Setup) where
     is_whole bs b chain first block =
         ap (λ c. hold_all (finals c) (start_of setup.plan setup.sealers).due) (chain_is s bs chain b first)
         ∙ ap (hold_all (finals (applied (standing_for s []) (lists_of b)))) due_is
-        ∙ all_pass (is_finalised (finals (applied (standing_for s []) (lists_of b)))) all (each_from_get (λ t. is_finalised (finals (applied (standing_for s []) (lists_of b))) t ≡ true) all (λ k t found.
-        finalised more s setup.valid all (fresh_of b) (length-map b.orders (λ (o : SealedOrder). o.order.fresh) ∙ block.count) (fresh_short b.orders block.orders) (fresh_same b.orders block.orders) setup.valid.replicas.few (late_of b) t (place_holds all k t found)))
+        ∙ all_pass (is_finalised (finals (applied (standing_for s []) (lists_of b)))) all
+        (each_from_get (λ t. is_finalised (finals (applied (standing_for s []) (lists_of b))) t ≡ true) all (λ k t found.
+        finalised more s setup.valid all (fresh_of b) (length-map b.orders (λ (o : SealedOrder). o.order.fresh) ∙ block.count)
+        (fresh_short b.orders block.orders) (fresh_same b.orders block.orders) setup.valid.replicas.few (late_of b) t
+        (place_holds all k t found)))
 
     pub progresses : HasProgressed setup.fits (record_of setup.plan F)
     progresses = has_progressed laws setup F is_F apart (fine laws setup F is_F apart is_whole some_due)

@@ -62,11 +62,13 @@ module _ (course : Course) where
   Has = Happened course
 
   -- what a turn sealed was sealed
-  pub sealed_by : (i : ℕ) (e : Event) (reported : Turned) (k : ℕ) (statement : List ℕ) → Has i e reported → slice_get reported.sealed k ≡ Some statement → was_sealed (map journal_of course.last.replicas) i statement ≡ true
+  pub sealed_by : (i : ℕ) (e : Event) (reported : Turned) (k : ℕ) (statement : List ℕ) → Has i e reported
+      → slice_get reported.sealed k ≡ Some statement → was_sealed (map journal_of course.last.replicas) i statement ≡ true
   sealed_by i e reported k statement happened found =
       ap (is_sealed_in statement) (slice_get-map journal_of course.last.replicas i ∙ ap (option_map journal_of) happened.found)
       ∙ any_passes_from_place (has_sealed statement) happened.replica.journal happened.place (record { event = e; turned = reported }) happened.entry
-      (any_passes_from_place (λ (bytes : List ℕ). pointwise ◌==◌ bytes statement) reported.sealed k statement found ((bytes_decides statement statement).1 refl))
+      (any_passes_from_place (λ (bytes : List ℕ). pointwise ◌==◌ bytes statement) reported.sealed k statement found
+      ((bytes_decides statement statement).1 refl))
 
   -- a block that was delivered
   pub record Came (b : Block) : Type 0 where
@@ -201,7 +203,9 @@ module _ (course : Course) where
       len_is = length-append bs (b ∷ []) ∙ sym made.view
 
       pub last_is : digest_at bs2 (length bs2) ≡ block_digest b
-      last_is = (let more : length bs2 ≡ suc (length bs) = (let l : length bs2 ≡ length bs + 1 = length-append bs (b ∷ []) in omega (arith, l)) in ap (digest_at bs2) more ∙ ap digest_in (get_last bs b))
+      last_is =
+          (let more : length bs2 ≡ suc (length bs) = (let l : length bs2 ≡ length bs + 1 = length-append bs (b ∷ []) in omega (arith, l)) in
+          ap (digest_at bs2) more ∙ ap digest_in (get_last bs b))
 
       -- the message of a proposal
       abbrev pub proposed : (i : ℕ) (e : Envelope) → IsProposal bs b i e → Proposed
@@ -220,16 +224,21 @@ module _ (course : Course) where
       pub proposal_parts : (i : ℕ) (e : Envelope) (p : IsProposal bs b i e) → AreSealed course (Deliver e.from e.bytes)
       proposal_parts i e p =
           subst (λ (r : Result MessageView WireFault). Each Sealed (parts_in (result_ok r))) (sym p.read)
-          (each_more Sealed (block_parts b) (part L (propose_spelling L b) p.seal ∷ []) (parts_sealed course.fits s course.lists Sealed bs b made) (p.was_sealed, tt))
+          (each_more Sealed (block_parts b) (part L (propose_spelling L b) p.seal ∷ [])
+          (parts_sealed course.fits s course.lists Sealed bs b made) (p.was_sealed, tt))
 
       pub turn_is : (i : ℕ) (e : Envelope) (st : State) (p : IsProposal bs b i e) (r : Ready bs i st)
-          → turn_of course.fits (course.gives i) st (Deliver e.from e.bytes) ≡ on_propose course.fits (course.gives i) (state_at (standing s course.plan.views i (course.lists i) bs b.view r.rest) r.made r.capacity) L (proposed i e p)
+          → turn_of course.fits (course.gives i) st (Deliver e.from e.bytes) ≡ on_propose course.fits (course.gives i)
+          (state_at (standing s course.plan.views i (course.lists i) bs b.view r.rest) r.made r.capacity) L (proposed i e p)
       turn_is i e st p r =
           ap (λ (x : Result MessageView WireFault). delivered course.fits (course.gives i) st e.from x) p.read
-          ∙ ap (λ (x : State). on_propose course.fits (course.gives i) x e.from (proposed i e p)) (r.is ∙ ap (λ (v : ℕ). state_at (standing s course.plan.views i (course.lists i) bs v r.rest) r.made r.capacity) (sym made.view))
-          ∙ ap (λ (x : ℕ). on_propose course.fits (course.gives i) (state_at (standing s course.plan.views i (course.lists i) bs b.view r.rest) r.made r.capacity) x (proposed i e p)) p.from
+          ∙ ap (λ (x : State). on_propose course.fits (course.gives i) x e.from (proposed i e p))
+          (r.is ∙ ap (λ (v : ℕ). state_at (standing s course.plan.views i (course.lists i) bs v r.rest) r.made r.capacity) (sym made.view))
+          ∙ ap (λ (x : ℕ). on_propose course.fits (course.gives i)
+          (state_at (standing s course.plan.views i (course.lists i) bs b.view r.rest) r.made r.capacity) x (proposed i e p)) p.from
 
-      module _ (i : ℕ) (below : i < s.n) (e : Envelope) (st : State) (p : IsProposal bs b i e) (r : Ready bs i st) (came : Came b) (inside : length bs + 1 < course.plan.views) where
+      module _ (i : ℕ) (below : i < s.n) (e : Envelope) (st : State) (p : IsProposal bs b i e) (r : Ready bs i st) (came : Came b)
+          (inside : length bs + 1 < course.plan.views) where
         abbrev order : LocalOrder
         order = order_over s i (b.view + 1) (course.lists i) bs2 (block_digest b)
 
@@ -244,14 +253,17 @@ module _ (course : Course) where
 
         abbrev voted_so : Outcome
         voted_so = record {
-          reported = reported (state_at (standing s course.plan.views i (course.lists i) bs2 (b.view + 1) (after_vote b r.rest)) r.made r.capacity) Done (vote_spelling i b.view (block_digest b) ∷ order_spelling order ∷ []) (send ∷ []);
+          reported =
+              reported (state_at (standing s course.plan.views i (course.lists i) bs2 (b.view + 1) (after_vote b r.rest)) r.made r.capacity)
+              Done (vote_spelling i b.view (block_digest b) ∷ order_spelling order ∷ []) (send ∷ []);
           state = state_at (standing s course.plan.views i (course.lists i) bs2 (b.view + 1) (after_vote b r.rest)) (r.made + 1 + 1) r.capacity;
         }
 
         outcome_is : turn_of course.fits (course.gives i) st (Deliver e.from e.bytes) ≡ voted_so
         outcome_is =
             turn_is i e st p r
-            ∙ votes course.fits (course.gives i) s course.plan.views i (course.lists i) bs chain b (is_due came) (proposed i e p) L r.rest r.made r.capacity refl refl (ap (leader_of s) (sym made.view)) p.seal_fits
+            ∙ votes course.fits (course.gives i) s course.plan.views i (course.lists i) bs chain b (is_due came)
+            (proposed i e p) L r.rest r.made r.capacity refl refl (ap (leader_of s) (sym made.view)) p.seal_fits
             (let v : b.view ≡ length bs + 1 = made.view in omega (arith, v, inside))
             (let v : b.view ≡ length bs + 1 = made.view in let h : r.rest.high.view ≤ length bs = r.high in omega (arith, v, h))
             (let v : b.view ≡ length bs + 1 = made.view in let h : r.rest.voted ≤ length bs = r.voted in omega (arith, v, h))
@@ -262,7 +274,8 @@ module _ (course : Course) where
           rest = after_vote b r.rest;
           made = r.made + 1 + 1;
           capacity = r.capacity;
-          is = ap (λ (v : ℕ). state_at (standing s course.plan.views i (course.lists i) bs2 (v + 1) (after_vote b r.rest)) (r.made + 1 + 1) r.capacity) (sym len_is);
+          is = ap (λ (v : ℕ). state_at (standing s course.plan.views i (course.lists i) bs2 (v + 1) (after_vote b r.rest)) (r.made + 1 + 1) r.capacity)
+              (sym len_is);
           high = (
               let c : b.cert.view ≡ length bs = made.cert_view in
               let h : r.rest.high.view ≤ length bs = r.high in
@@ -283,7 +296,8 @@ module _ (course : Course) where
             below = below;
             seal_fits = rw (last_is, len_is) (rests.fit i r.made (vote_spelling i b.view (block_digest b)) below);
             short = rests.short i r.made (vote_spelling i b.view (block_digest b)) below;
-            was_sealed = rw (last_is, len_is) (sealed_by i (Deliver e.from e.bytes) voted_so.reported 0 (vote_spelling i b.view (block_digest b)) happened refl);
+            was_sealed = rw (last_is, len_is)
+                (sealed_by i (Deliver e.from e.bytes) voted_so.reported 0 (vote_spelling i b.view (block_digest b)) happened refl);
           }
 
           good_order : IsGoodOrder course.fits s course.lists Sealed bs2 sealed
@@ -300,7 +314,10 @@ module _ (course : Course) where
 
           written : IsWritable (sent.Vote vote (Some sealed))
           written = (
-            record { named = (let few : s.n ≤ 16 = rests.small in omega (arith, below, few)); sealed = rests.short i r.made (vote_spelling i b.view (block_digest b)) below },
+            record {
+              named = (let few : s.n ≤ 16 = rests.small in omega (arith, below, few));
+              sealed = rests.short i r.made (vote_spelling i b.view (block_digest b)) below;
+            },
             (let v : b.view ≡ length bs + 1 = made.view in omega (arith, v, low)),
             block_long b,
             order_written course.fits s course.lists Sealed bs2 rests.small rests.proper small_view sealed good_order,
@@ -332,7 +349,8 @@ module _ (course : Course) where
             sent = record { came = came; ballot = ballot };
           }
 
-      propose_turn : (inside : length bs + 1 < course.plan.views) (i : ℕ) (e : Envelope) (st : State) (o : Outcome) → i < s.n → IsProposal bs b i e → Ready bs i st → o ≡ turn_of course.fits (course.gives i) st (Deliver e.from e.bytes)
+      propose_turn : (inside : length bs + 1 < course.plan.views) (i : ℕ) (e : Envelope) (st : State) (o : Outcome) → i < s.n
+          → IsProposal bs b i e → Ready bs i st → o ≡ turn_of course.fits (course.gives i) st (Deliver e.from e.bytes)
           → Has i (Deliver e.from e.bytes) o.reported → OutTurn course (Ready bs) (After bs2) (IsProposal bs b) IsVotedFor i e o
       propose_turn inside i e st o below p r is happened =
           let came : Came b = brings i below e o.reported p happened in
@@ -357,4 +375,5 @@ module _ (course : Course) where
           → Ends course (up s.n steps) w
       propose_phase inside steps last few next =
           fan_out course (Ready bs) (After bs2) (IsProposal bs b) IsVotedFor (λ i e p. p.to) (propose_turn inside) steps last few
-          (λ v g queue turns. next v (first_of_queue IsVotedFor s.n v.queue rests.some queue).1.came g (queue_weaker IsVotedFor (IsBallot bs2) 0 s.n v.queue (λ k e x. x.ballot) queue) turns)
+          (λ v g queue turns. next v (first_of_queue IsVotedFor s.n v.queue rests.some queue).1.came g
+          (queue_weaker IsVotedFor (IsBallot bs2) 0 s.n v.queue (λ k e x. x.ballot) queue) turns)

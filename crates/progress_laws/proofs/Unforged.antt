@@ -17,19 +17,23 @@ use Rattle.run_verdict.specs.Sealed.{was_sealed}
 
 -- each part of what was delivered was sealed by its signer, in one of these journals
 abbrev pub AreSealedIn : List Journal → List Entry → Type 0
-AreSealedIn journals entries = Each (λ (e : Entry). Each (λ (p : Part). was_sealed journals p.signer p.statement ≡ true) (parts_in (message_in e.event))) entries
+AreSealedIn journals entries =
+    Each (λ (e : Entry). Each (λ (p : Part). was_sealed journals p.signer p.statement ≡ true) (parts_in (message_in e.event))) entries
 
 -- ---- lists
 
-none_of_items : {X Y : Type 0} (f : ℕ × X → Option Y) (honest : ℕ → Bool) (i : ℕ) (xs : List X) → Each (λ x. (j : ℕ) → f (j, x) ≡ None) xs → first_of f (honest_items honest i xs) ≡ None
+none_of_items : {X Y : Type 0} (f : ℕ × X → Option Y) (honest : ℕ → Bool) (i : ℕ) (xs : List X) → Each (λ x. (j : ℕ) → f (j, x) ≡ None) xs
+    → first_of f (honest_items honest i xs) ≡ None
 none_of_items f honest i [] each = refl
 none_of_items f honest i (x ∷ xs) each = by (honest i) (none_of_items f honest (i + 1) xs each.1)
   where
-    by : (t : Bool) → first_of f (honest_items honest (i + 1) xs) ≡ None → first_of f (if t then (i, x) ∷ honest_items honest (i + 1) xs else honest_items honest (i + 1) xs) ≡ None
+    by : (t : Bool) → first_of f (honest_items honest (i + 1) xs) ≡ None
+        → first_of f (if t then (i, x) ∷ honest_items honest (i + 1) xs else honest_items honest (i + 1) xs) ≡ None
     by true rest = rw (each.0 i) rest
     by false rest = rest
 
-none_of_numbered : {X Y : Type 0} (f : ℕ × X → Option Y) (i : ℕ) (xs : List X) → Each (λ x. (j : ℕ) → f (j, x) ≡ None) xs → first_of f (enumerate_from i xs) ≡ None
+none_of_numbered : {X Y : Type 0} (f : ℕ × X → Option Y) (i : ℕ) (xs : List X) → Each (λ x. (j : ℕ) → f (j, x) ≡ None) xs
+    → first_of f (enumerate_from i xs) ≡ None
 none_of_numbered f i [] each = refl
 none_of_numbered f i (x ∷ xs) each = rw (each.0 i) (none_of_numbered f (i + 1) xs each.1)
 
@@ -42,7 +46,8 @@ module _ (fits : Check) (run : RunRecord) where
   unforged_part : (receiver entry : ℕ) (p : Part) → Sealed p → (number : ℕ) → forged_part fits run receiver entry (number, p) ≡ None
   unforged_part receiver entry p sealed number = rw sealed (by (honest_in run p.signer))
     where
-      by : (t : Bool) → ◌≡◌ {A = Option ForgedAt} (if (t && false) && fits p.signer p.statement p.seal then Some (record { receiver = receiver; entry = entry; part = number; signer = p.signer }) else None) None
+      by : (t : Bool) → ◌≡◌ {A = Option ForgedAt} (if (t && false) && fits p.signer p.statement p.seal
+          then Some (record { receiver = receiver; entry = entry; part = number; signer = p.signer }) else None) None
       by true = refl
       by false = refl
 
@@ -66,6 +71,7 @@ module _ (fits : Check) (run : RunRecord) where
   unfolding first_forged_of
   unforged each = none_of_items (forged_in_journal fits run) (honest_in run) 0 run.journals (all run.journals each)
     where
-      all : (journals : List Journal) → Each (λ (j : Journal). AreSealedIn run.journals j.entries) journals → Each (λ (j : Journal). (receiver : ℕ) → forged_in_journal fits run (receiver, j) ≡ None) journals
+      all : (journals : List Journal) → Each (λ (j : Journal). AreSealedIn run.journals j.entries) journals
+          → Each (λ (j : Journal). (receiver : ℕ) → forged_in_journal fits run (receiver, j) ≡ None) journals
       all [] each = tt
       all (j ∷ journals) each = (unforged_journal j each.0, all journals each.1)

@@ -39,14 +39,17 @@ use Rattle.std.proofs.lemmas.Bool.{and_from, cases_eq}
 use Rattle.progress_laws.proofs.Items.{each_more}
 
 -- the same bytes to each of these
-pub each_gets : (M : ℕ → Envelope → Type 0) (L : ℕ) (bytes : List ℕ) (i m : ℕ) → ((j : ℕ) → j < i + m → M j (record { from = L; to = j; bytes = bytes })) → Queue M i m (map (envelope L) (to_each (range_with_len i m) bytes))
+pub each_gets : (M : ℕ → Envelope → Type 0) (L : ℕ) (bytes : List ℕ) (i m : ℕ)
+    → ((j : ℕ) → j < i + m → M j (record { from = L; to = j; bytes = bytes }))
+    → Queue M i m (map (envelope L) (to_each (range_with_len i m) bytes))
 each_gets M L bytes i zero f = tt
 each_gets M L bytes i (suc m) f =
     (f i (omega arith), (let same : i + 1 ≡ suc i = omega arith in rw same (each_gets M L bytes (suc i) m (λ j inside. f j (omega (arith, inside))))))
 
 pub each_within : (n : ℕ) (bytes : List ℕ) (i m : ℕ) → i + m ≤ n → AreWithin n (to_each (range_with_len i m) bytes)
 each_within n bytes i zero inside = tt
-each_within n bytes i (suc m) inside = (omega (arith, inside), (let same : i + 1 ≡ suc i = omega arith in rw same (each_within n bytes (suc i) m (omega (arith, inside)))))
+each_within n bytes i (suc m) inside =
+    (omega (arith, inside), (let same : i + 1 ≡ suc i = omega arith in rw same (each_within n bytes (suc i) m (omega (arith, inside)))))
 
 module _ (course : Course) where
   abbrev s : Parameters
@@ -66,9 +69,11 @@ module _ (course : Course) where
 
   -- If a block is made and its proposal sealed, it is in transit to each.
   pub proposes_all : (rests : Rests course) (bs : List Block) (b : Block) (number : ℕ) → length bs ≤ 3 → IsMade course.fits s course.lists Seal bs b
-      → Seal (part (leader_of s (length bs + 1)) (propose_spelling (leader_of s (length bs + 1)) b) (course.gives (leader_of s (length bs + 1)) number (propose_spelling (leader_of s (length bs + 1)) b)))
+      → Seal (part (leader_of s (length bs + 1)) (propose_spelling (leader_of s (length bs + 1)) b)
+      (course.gives (leader_of s (length bs + 1)) number (propose_spelling (leader_of s (length bs + 1)) b)))
       → IsProposed bs (map (envelope (leader_of s (length bs + 1))) (to_each (range_with_len 0 s.n)
-      (message_spelling (sent.Propose (leader_of s (length bs + 1)) b (course.gives (leader_of s (length bs + 1)) number (propose_spelling (leader_of s (length bs + 1)) b))))))
+      (message_spelling (sent.Propose (leader_of s (length bs + 1)) b
+      (course.gives (leader_of s (length bs + 1)) number (propose_spelling (leader_of s (length bs + 1)) b))))))
   proposes_all rests bs b number low made sealed =
       let L : ℕ = leader_of s (length bs + 1) in
       let seal : List ℕ = course.gives L number (propose_spelling L b) in
@@ -145,7 +150,9 @@ module _ (course : Course) where
 
     module _ (k : ℕ) (inside : k < s.n) (e : Envelope) (st : State) (b : Ballots k e) where
       own_seal : course.fits k (vote_spelling b.voted.vote.replica b.voted.vote.view b.voted.vote.block) b.voted.vote.seal ≡ true
-      own_seal = rw (b.view, b.block) (ap (λ (x : ℕ). course.fits x (vote_spelling b.voted.vote.replica (length bs) (digest_at bs (length bs))) b.voted.vote.seal) (sym b.own) ∙ b.good_vote.seal_fits)
+      own_seal = rw (b.view, b.block)
+          (ap (λ (x : ℕ). course.fits x (vote_spelling b.voted.vote.replica (length bs) (digest_at bs (length bs))) b.voted.vote.seal) (sym b.own)
+          ∙ b.good_vote.seal_fits)
 
       carried_seal : option_map_or (λ sealed. course.fits k (order_spelling sealed.order) sealed.seal) b.voted.order true ≡ true
       carried_seal = rw b.order (ap (λ (x : ℕ). course.fits x (order_spelling b.sealed.order) b.sealed.seal) (sym b.order_own) ∙ b.good_order.seal_fits)
@@ -160,7 +167,8 @@ module _ (course : Course) where
         order_view = ap (λ (o : LocalOrder). o.view) b.good_order.drawn;
         order_parent = ap (λ (o : LocalOrder). o.parent) b.good_order.drawn;
         order_fits = ap (fits_chain (chain_state_of (record { setting = s; blocks = bs }) (digest_at bs (length bs)))) b.good_order.drawn
-            ∙ drawn_fits b.sealed.order.replica (length bs + 1) (digest_at bs (length bs)) (course.lists b.sealed.order.replica) (chain_state_of (record { setting = s; blocks = bs }) (digest_at bs (length bs)));
+            ∙ drawn_fits b.sealed.order.replica (length bs + 1) (digest_at bs (length bs)) (course.lists b.sealed.order.replica)
+            (chain_state_of (record { setting = s; blocks = bs }) (digest_at bs (length bs)));
         seal_fits = and_from (course.fits k (vote_spelling b.voted.vote.replica b.voted.vote.view b.voted.vote.block) b.voted.vote.seal)
             (option_map_or (λ sealed. course.fits k (order_spelling sealed.order) sealed.seal) b.voted.order true) own_seal carried_seal;
       }
@@ -173,7 +181,8 @@ module _ (course : Course) where
       turn_is : (x : State) → st ≡ x → turn_of course.fits (course.gives L) st (Deliver e.from e.bytes) ≡ on_vote course.fits (course.gives L) x k b.voted
       turn_is x is =
           ap (λ (r : Result MessageView WireFault). delivered course.fits (course.gives L) st e.from r) b.read
-          ∙ ap (λ (y : State). on_vote course.fits (course.gives L) y e.from b.voted) is ∙ ap (λ (y : ℕ). on_vote course.fits (course.gives L) x y b.voted) b.from
+          ∙ ap (λ (y : State). on_vote course.fits (course.gives L) y e.from b.voted) is
+          ∙ ap (λ (y : ℕ). on_vote course.fits (course.gives L) x y b.voted) b.from
 
       inside_views : length bs < course.plan.views
       inside_views = (let v : 4 ≤ course.plan.views = rests.views in omega (arith, v, low))
@@ -182,10 +191,25 @@ module _ (course : Course) where
       late : HasProposed st → q ≤ k → (o : Outcome) → o ≡ turn_of course.fits (course.gives L) st (Deliver e.from e.bytes) → Turns k e o
       late h following o is =
           let same : o ≡ quiet (at h.rest h.made h.capacity) OldView = is ∙ turn_is (at h.rest h.made h.capacity) h.is
-          ∙ comes_late course.fits (course.gives L) s course.plan.views L (course.lists L) bs chain k b.voted b.sealed is_vote some inside_views refl h.rest h.made h.capacity h.high in
+          ∙ comes_late course.fits (course.gives L) s course.plan.views L
+          (course.lists L) bs chain k b.voted b.sealed is_vote some inside_views refl h.rest h.made h.capacity h.high in
           subst (Turns k e) (sym same) (record {
             parts = parts;
-            state = ((λ less. absurd (omega (arith, less, following))), (λ above. record { rest = h.rest; made = h.made; capacity = h.capacity; is = refl; high = h.high; voted = h.voted; asked = h.asked; boxes = h.boxes; few_made = h.few_made; room = h.room }));
+            state = (
+              (λ less. absurd (omega (arith, less, following))),
+              (λ above. record {
+                rest = h.rest;
+                made = h.made;
+                capacity = h.capacity;
+                is = refl;
+                high = h.high;
+                voted = h.voted;
+                asked = h.asked;
+                boxes = h.boxes;
+                few_made = h.few_made;
+                room = h.room;
+              }),
+            );
             within = tt;
             at_last = λ now. absurd (omega (arith, now, following));
             else = λ other. refl;
@@ -199,16 +223,22 @@ module _ (course : Course) where
         good_orders2 = each_more (IsGoodOrder course.fits s course.lists Seal bs) h.orders (b.sealed ∷ []) h.good_orders (b.good_order, tt)
 
         run_votes2 : RunFrom voter 0 (h.votes ++ bare b.voted.vote ∷ [])
-        run_votes2 = run_more voter 0 h.votes (bare b.voted.vote) h.run_votes (let own : b.voted.vote.replica ≡ k = b.own in let m : length h.votes ≡ k = h.many in omega (arith, own, m))
+        run_votes2 = run_more voter 0 h.votes (bare b.voted.vote) h.run_votes
+            (let own : b.voted.vote.replica ≡ k = b.own in let m : length h.votes ≡ k = h.many in omega (arith, own, m))
 
         run_orders2 : RunFrom orderer 0 (h.orders ++ b.sealed ∷ [])
-        run_orders2 = run_more orderer 0 h.orders b.sealed h.run_orders (let own : b.sealed.order.replica ≡ k = b.order_own in let m : length h.votes ≡ k = h.many in let o : length h.orders ≡ length h.votes = h.same in omega (arith, own, m, o))
+        run_orders2 = run_more orderer 0 h.orders b.sealed h.run_orders (let own : b.sealed.order.replica ≡ k = b.order_own in
+            let m : length h.votes ≡ k = h.many in let o : length h.orders ≡ length h.votes = h.same in omega (arith, own, m, o))
 
         many2 : length (h.votes ++ bare b.voted.vote ∷ []) ≡ suc k
-        many2 = (let l : length (h.votes ++ bare b.voted.vote ∷ []) ≡ length h.votes + 1 = length-append h.votes (bare b.voted.vote ∷ []) in let m : length h.votes ≡ k = h.many in omega (arith, l, m))
+        many2 =
+            (let l : length (h.votes ++ bare b.voted.vote ∷ []) ≡ length h.votes + 1 = length-append h.votes (bare b.voted.vote ∷ []) in
+            let m : length h.votes ≡ k = h.many in omega (arith, l, m))
 
         same2 : length (h.orders ++ b.sealed ∷ []) ≡ length (h.votes ++ bare b.voted.vote ∷ [])
-        same2 = (let l : length (h.orders ++ b.sealed ∷ []) ≡ length h.orders + 1 = length-append h.orders (b.sealed ∷ []) in let m : length h.votes ≡ k = h.many in let o : length h.orders ≡ length h.votes = h.same in omega (arith, l, m, o, many2))
+        same2 =
+            (let l : length (h.orders ++ b.sealed ∷ []) ≡ length h.orders + 1 = length-append h.orders (b.sealed ∷ []) in
+            let m : length h.votes ≡ k = h.many in let o : length h.orders ≡ length h.votes = h.same in omega (arith, l, m, o, many2))
 
         high_below : h.rest.high.view < length bs
         high_below = h.high
@@ -216,9 +246,14 @@ module _ (course : Course) where
         -- a vote that does not complete the quorum
         kept : suc k < q → (o : Outcome) → o ≡ turn_of course.fits (course.gives L) st (Deliver e.from e.bytes) → Turns k e o
         kept few o is =
-            let rest2 : Rest = record h.rest { boxes = ballot course.fits (course.gives L) s course.plan.views L (course.lists L) bs chain (h.votes ++ bare b.voted.vote ∷ []) (h.orders ++ b.sealed ∷ []) ∷ [] } in
+            let rest2 : Rest =
+            record h.rest {
+              boxes = ballot course.fits (course.gives L) s course.plan.views L (course.lists L) bs chain
+                  (h.votes ++ bare b.voted.vote ∷ []) (h.orders ++ b.sealed ∷ []) ∷ [];
+            } in
             let same : o ≡ quiet (at rest2 h.made h.capacity) Done = is ∙ turn_is (at h.rest h.made h.capacity) h.is
-            ∙ is_kept course.fits (course.gives L) s course.plan.views L (course.lists L) bs chain k b.voted b.sealed is_vote some inside_views refl h.rest h.votes h.orders h.kept h.run_votes h.run_orders h.same (sym h.many) h.made h.capacity high_below h.asked
+            ∙ is_kept course.fits (course.gives L) s course.plan.views L (course.lists L) bs chain k b.voted b.sealed is_vote some inside_views
+            refl h.rest h.votes h.orders h.kept h.run_votes h.run_orders h.same (sym h.many) h.made h.capacity high_below h.asked
             (let m : length h.votes ≡ k = h.many in omega (arith, m, few)) in
             subst (Turns k e) (sym same) (record {
               parts = parts;
@@ -251,15 +286,22 @@ module _ (course : Course) where
             })
 
         abbrev block : Block
-        block = record { view = length bs + 1; cert = record { view = length bs; block = digest_at bs (length bs); votes = h.votes ++ bare b.voted.vote ∷ [] }; orders = h.orders ++ b.sealed ∷ [] }
+        block =
+            record {
+              view = length bs + 1;
+              cert = record { view = length bs; block = digest_at bs (length bs); votes = h.votes ++ bare b.voted.vote ∷ [] };
+              orders = h.orders ++ b.sealed ∷ [];
+            }
 
         is_made : suc k ≡ q → IsMade course.fits s course.lists Seal bs block
         is_made now = record {
           view = refl;
           cert_view = refl;
           cert_block = refl;
-          good = cert_good course.fits s course.lists Seal bs (h.votes ++ bare b.voted.vote ∷ []) some (omega (arith, now, many2)) rests.few_wanted run_votes2 good_votes2;
-          cert_written = cert_written course.fits s course.lists Seal bs (h.votes ++ bare b.voted.vote ∷ []) rests.small (omega (arith, low)) (let w : q ≤ s.n = rests.few_wanted in omega (arith, now, many2, w)) run_votes2 good_votes2;
+          good = cert_good course.fits s course.lists Seal bs (h.votes ++ bare b.voted.vote ∷ []) some
+              (omega (arith, now, many2)) rests.few_wanted run_votes2 good_votes2;
+          cert_written = cert_written course.fits s course.lists Seal bs (h.votes ++ bare b.voted.vote ∷ []) rests.small
+              (omega (arith, low)) (let w : q ≤ s.n = rests.few_wanted in omega (arith, now, many2, w)) run_votes2 good_votes2;
           cert_sealed = cert_sealed course.fits s course.lists Seal bs (h.votes ++ bare b.voted.vote ∷ []) good_votes2;
           count = omega (arith, now, many2, same2);
           ascending = run_orders2;
@@ -267,14 +309,21 @@ module _ (course : Course) where
         }
 
         -- the vote that completes the quorum
-        last : suc k ≡ q → (o : Outcome) → o ≡ turn_of course.fits (course.gives L) st (Deliver e.from e.bytes) → Happens L (Deliver e.from e.bytes) o → Turns k e o
+        last : suc k ≡ q → (o : Outcome) → o ≡ turn_of course.fits (course.gives L) st (Deliver e.from e.bytes)
+            → Happens L (Deliver e.from e.bytes) o → Turns k e o
         last now o is happened =
             let same : o ≡ record {
-              reported = reported (at (after_form course.fits (course.gives L) s course.plan.views L (course.lists L) bs chain k b.voted b.sealed is_vote some inside_views refl h.rest h.votes h.orders h.kept h.run_votes h.run_orders h.same (sym h.many)) h.made h.capacity) Done (propose_spelling L block ∷ [])
+              reported = reported
+                  (at (after_form course.fits (course.gives L) s course.plan.views L (course.lists L) bs chain k b.voted b.sealed is_vote
+                  some inside_views refl h.rest h.votes h.orders h.kept h.run_votes h.run_orders h.same (sym h.many)) h.made h.capacity)
+                  Done (propose_spelling L block ∷ [])
                   (to_each (range_with_len 0 s.n) (message_spelling (sent.Propose L block (course.gives L h.made (propose_spelling L block)))));
-              state = at (after_form course.fits (course.gives L) s course.plan.views L (course.lists L) bs chain k b.voted b.sealed is_vote some inside_views refl h.rest h.votes h.orders h.kept h.run_votes h.run_orders h.same (sym h.many)) (h.made + 1) h.capacity;
+              state = at (after_form course.fits (course.gives L) s course.plan.views L (course.lists L) bs chain k b.voted b.sealed
+                  is_vote some inside_views refl h.rest h.votes h.orders h.kept h.run_votes h.run_orders h.same (sym h.many))
+                  (h.made + 1) h.capacity;
             } = is ∙ turn_is (at h.rest h.made h.capacity) h.is
-            ∙ is_last course.fits (course.gives L) s course.plan.views L (course.lists L) bs chain k b.voted b.sealed is_vote some inside_views refl h.rest h.votes h.orders h.kept h.run_votes h.run_orders h.same (sym h.many) h.made h.capacity high_below h.asked
+            ∙ is_last course.fits (course.gives L) s course.plan.views L (course.lists L) bs chain k b.voted b.sealed is_vote some inside_views
+            refl h.rest h.votes h.orders h.kept h.run_votes h.run_orders h.same (sym h.many) h.made h.capacity high_below h.asked
             (let m : length h.votes ≡ k = h.many in omega (arith, m, now))
             (let f : h.made ≤ 3 * length bs + 3 = h.few_made in let c : 20 ≤ h.capacity = h.room in omega (arith, f, c, low)) in
             subst (λ (x : Outcome). Happens L (Deliver e.from e.bytes) x → Turns k e x) (sym same)
@@ -283,7 +332,8 @@ module _ (course : Course) where
               state = (
                 (λ less. absurd (omega (arith, less, now))),
                 (λ above. record {
-                  rest = after_form course.fits (course.gives L) s course.plan.views L (course.lists L) bs chain k b.voted b.sealed is_vote some inside_views refl h.rest h.votes h.orders h.kept h.run_votes h.run_orders h.same (sym h.many);
+                  rest = after_form course.fits (course.gives L) s course.plan.views L (course.lists L) bs chain k b.voted b.sealed is_vote
+                      some inside_views refl h.rest h.votes h.orders h.kept h.run_votes h.run_orders h.same (sym h.many);
                   made = h.made + 1;
                   capacity = h.capacity;
                   is = refl;
@@ -296,11 +346,13 @@ module _ (course : Course) where
                 }),
               );
               within = each_within s.n _ 0 s.n (omega arith);
-              at_last = λ x. proposes_all rests bs block h.made low (is_made now) (sealed_by course L (Deliver e.from e.bytes) _ 0 (propose_spelling L block) happens refl);
+              at_last = λ x. proposes_all rests bs block h.made low (is_made now)
+                  (sealed_by course L (Deliver e.from e.bytes) _ 0 (propose_spelling L block) happens refl);
               else = λ other. absurd (other now);
             }) happened
 
-    ballot_turn : (k : ℕ) (e : Envelope) (st : State) (o : Outcome) → k < s.n → Ballots k e → Counts k st → o ≡ turn_of course.fits (course.gives L) st (Deliver e.from e.bytes) → Happens L (Deliver e.from e.bytes) o → Turns k e o
+    ballot_turn : (k : ℕ) (e : Envelope) (st : State) (o : Outcome) → k < s.n → Ballots k e → Counts k st
+        → o ≡ turn_of course.fits (course.gives L) st (Deliver e.from e.bytes) → Happens L (Deliver e.from e.bytes) o → Turns k e o
     ballot_turn k e st o inside b c is happened = by (compared k q)
       where
         by : (suc k < q) ⊎ ((suc k ≡ q) ⊎ (q ≤ k)) → Turns k e o
@@ -367,10 +419,18 @@ module _ (course : Course) where
     vote_phase steps last few next w g queue turns =
         fan_in course L (rests.leader (length bs + 1)) q rests.wanted rests.few_wanted (After course bs) Counts Ballots (IsProposed bs)
         (λ i e b. b.to) ballot_turn steps last few
-        (λ v gv out turns_v. next v (record { count = gv.count; each = λ j r found. (let both = gv.each j r found in (both.0, had_ready j r.state both.1)); ticks = gv.ticks; due = gv.due }) out turns_v)
+        (λ v gv out turns_v. next v
+        (record {
+          count = gv.count;
+          each = λ j r found. (let both = gv.each j r found in (both.0, had_ready j r.state both.1));
+          ticks = gv.ticks;
+          due = gv.due;
+        })
+        out turns_v)
         w (record {
           count = g.count;
-          each = λ j r found. (let both = g.each j r found in (both.0, ((λ same. begins r.state (subst (λ (x : ℕ). After course bs x r.state) same both.1)), (λ other. both.1))));
+          each = λ j r found. (let both = g.each j r found in
+              (both.0, ((λ same. begins r.state (subst (λ (x : ℕ). After course bs x r.state) same both.1)), (λ other. both.1))));
           ticks = g.ticks;
           due = g.due;
         }) queue turns

@@ -40,7 +40,8 @@ module _ (fits : Check) (gives : Gives) (s : Parameters) (views me : ℕ) (list 
 
   -- the ballot of the last block
   abbrev pub ballot : List CertVote → List SealedOrder → Ballot
-  ballot votes orders = record { view = length bs; block = last; votes = record { setting = s; view = length bs; block = last; votes = votes; formed = false }; orders = orders }
+  ballot votes orders =
+      record { view = length bs; block = last; votes = record { setting = s; view = length bs; block = last; votes = votes; formed = false }; orders = orders }
 
   -- these votes and orders are stored
   abbrev pub AreKept : List Ballot → List CertVote → List SealedOrder → Type 0
@@ -61,7 +62,8 @@ module _ (fits : Check) (gives : Gives) (s : Parameters) (views me : ℕ) (list 
   abbrev before : Rest → Known
   before rest = standing s views me list bs (length bs + 1) rest
 
-  ballot_is : (rest : Rest) (votes : List CertVote) (orders : List SealedOrder) → AreKept rest.boxes votes orders → ballot_of (before rest) (length bs) last ≡ ballot votes orders
+  ballot_is : (rest : Rest) (votes : List CertVote) (orders : List SealedOrder) → AreKept rest.boxes votes orders
+      → ballot_of (before rest) (length bs) last ≡ ballot votes orders
   ballot_is rest votes orders (inl k) = rw (k.0, k.1, k.2)
   ballot_is rest votes orders (inr k) = rw (k, eq_yes (length bs) (length bs) refl, true_same last last refl)
 
@@ -69,14 +71,18 @@ module _ (fits : Check) (gives : Gives) (s : Parameters) (views me : ℕ) (list 
   others_are rest votes orders (inl k) = rw k.0
   others_are rest votes orders (inr k) = rw (k, eq_yes (length bs) (length bs) refl, true_same last last refl)
 
-  not_voted : (rest : Rest) (votes : List CertVote) (orders : List SealedOrder) (replica : ℕ) → AreKept rest.boxes votes orders → RunFrom voter 0 votes → length votes ≤ replica
+  not_voted : (rest : Rest) (votes : List CertVote) (orders : List SealedOrder) (replica : ℕ) → AreKept rest.boxes votes orders
+      → RunFrom voter 0 votes → length votes ≤ replica
       → has_voted rest.boxes (length bs) last replica ≡ false
   not_voted rest votes orders replica (inl k) run few = rw k.0
-  not_voted rest votes orders replica (inr k) run few = rw (k, none_yet voter 0 replica votes run (omega (arith, few)), eq_yes (length bs) (length bs) refl, true_same last last refl)
+  not_voted rest votes orders replica (inr k) run few =
+      rw (k, none_yet voter 0 replica votes run (omega (arith, few)), eq_yes (length bs) (length bs) refl, true_same last last refl)
 
-  module _ (replica : ℕ) (v : Voted) (sealed : SealedOrder) (is : IsVote replica v sealed) (some : 1 ≤ length bs) (inside : length bs < views) (leads : leader_of s (length bs + 1) ≡ me) where
+  module _ (replica : ℕ) (v : Voted) (sealed : SealedOrder) (is : IsVote replica v sealed) (some : 1 ≤ length bs)
+      (inside : length bs < views) (leads : leader_of s (length bs + 1) ≡ me) where
     -- ---- late
-    pub comes_late : (rest : Rest) (made capacity : ℕ) → rest.high.view ≡ length bs → on_vote fits gives (state_at (before rest) made capacity) replica v ≡ quiet (state_at (before rest) made capacity) OldView
+    pub comes_late : (rest : Rest) (made capacity : ℕ) → rest.high.view ≡ length bs
+        → on_vote fits gives (state_at (before rest) made capacity) replica v ≡ quiet (state_at (before rest) made capacity) OldView
     comes_late rest made capacity high = rw (late) refl
       where
         late : vote_reason fits (before rest) replica v ≡ OldView
@@ -99,7 +105,8 @@ module _ (fits : Check) (gives : Gives) (s : Parameters) (views me : ℕ) (list 
           not_from_true _ (eq_yes _ me (ap (λ (x : ℕ). leader_of s (x + 1)) is.view ∙ leads)),
           (
             or_from _ _ (lt_no (v.vote.view + 1) (length bs + 1) (omega (arith, is.view)))
-                (or_from _ _ (le_no v.vote.view rest.high.view (omega (arith, is.view, high))) (le_no (v.vote.view + 1) rest.asked (omega (arith, is.view, asked)))),
+                (or_from _ _ (le_no v.vote.view rest.high.view (omega (arith, is.view, high)))
+                (le_no (v.vote.view + 1) rest.asked (omega (arith, is.view, asked)))),
             (
               not_from_true _ is.seal_fits,
               (
@@ -108,7 +115,8 @@ module _ (fits : Check) (gives : Gives) (s : Parameters) (views me : ℕ) (list 
                   or_from _ _ (rw (is.block, view_is bs chain (length bs) (omega arith)) (not_from_true _ (eq_yes (length bs) v.vote.view (sym is.view))))
                       (not_from_true _ (rw is.order (and_from _ _ (lt_yes v.vote.view views (omega (arith, is.view, inside)))
                       (and_from _ _ (eq_yes sealed.order.replica replica is.order_own)
-                      (and_from _ _ (eq_yes sealed.order.view (v.vote.view + 1) (omega (arith, is.order_view, is.view))) (true_same sealed.order.parent v.vote.block (is.order_parent ∙ sym is.block))))))),
+                      (and_from _ _ (eq_yes sealed.order.view (v.vote.view + 1) (omega (arith, is.order_view, is.view)))
+                      (true_same sealed.order.parent v.vote.block (is.order_parent ∙ sym is.block))))))),
                   tt,
                 ),
               ),
@@ -118,7 +126,8 @@ module _ (fits : Check) (gives : Gives) (s : Parameters) (views me : ℕ) (list 
       ),
     )
 
-    not_yet : (rest : Rest) (votes : List CertVote) (orders : List SealedOrder) → AreKept rest.boxes votes orders → RunFrom voter 0 votes → length votes ≤ replica
+    not_yet : (rest : Rest) (votes : List CertVote) (orders : List SealedOrder) → AreKept rest.boxes votes orders → RunFrom voter 0 votes
+        → length votes ≤ replica
         → voted_reason (before rest) replica v.vote v.order ≡ Done
     not_yet rest votes orders kept run few = passes_all (voted_rows (before rest) replica v.vote v.order) (
       (rw (is.order, is.block) (not_from_true _ is.order_fits)),
@@ -130,7 +139,8 @@ module _ (fits : Check) (gives : Gives) (s : Parameters) (views me : ℕ) (list 
 
     -- ---- it is stored
 
-    module _ (rest : Rest) (votes : List CertVote) (orders : List SealedOrder) (kept : AreKept rest.boxes votes orders) (run : RunFrom voter 0 votes) (run_orders : RunFrom orderer 0 orders)
+    module _ (rest : Rest) (votes : List CertVote) (orders : List SealedOrder) (kept : AreKept rest.boxes votes orders)
+        (run : RunFrom voter 0 votes) (run_orders : RunFrom orderer 0 orders)
         (as_many : length orders ≡ length votes) (turn : replica ≡ length votes) where
       own_vote : (bare v.vote).replica ≡ 0 + length votes
       own_vote = omega (arith, is.own, turn)
@@ -198,12 +208,14 @@ module _ (fits : Check) (gives : Gives) (s : Parameters) (views me : ℕ) (list 
           → certified gives (state_at (before (record rest { boxes = [] })) made capacity) whole
           ≡ record {
             reported = reported (state_at (before after_form) made capacity) Done (propose_spelling me (next_block whole) ∷ [])
-                (to_each (range_with_len 0 s.n) (message_spelling (messages.Propose me (next_block whole) (gives made (propose_spelling me (next_block whole))))));
+                (to_each (range_with_len 0 s.n)
+                (message_spelling (messages.Propose me (next_block whole) (gives made (propose_spelling me (next_block whole))))));
             state = state_at (before after_form) (made + 1) capacity;
           }
       unfolding certified proposal
       form made capacity high room =
-          ap (λ (k : Known). if nat_eq (length bs) k.views then quiet (state_at k made capacity) Done else proposes gives (state_at (proposing_next whole.cert k) made capacity) (next_block whole))
+          ap (λ (k : Known). if nat_eq (length bs) k.views then quiet (state_at k made capacity) Done
+          else proposes gives (state_at (proposing_next whole.cert k) made capacity) (next_block whole))
           (sees s views me list bs chain (length bs + 1) (record rest { boxes = [] }) whole.cert (omega arith) (omega arith) refl (omega (arith, high)))
           ∙ rw (eq_no (length bs) views (λ same. omega (arith, same, inside)), eq_no made capacity (λ same. omega (arith, same, room)))
 
@@ -212,9 +224,11 @@ module _ (fits : Check) (gives : Gives) (s : Parameters) (views me : ℕ) (list 
           → on_vote fits gives (state_at (before rest) made capacity) replica v
           ≡ record {
             reported = reported (state_at (before after_form) made capacity) Done (propose_spelling me (next_block whole) ∷ [])
-                (to_each (range_with_len 0 s.n) (message_spelling (messages.Propose me (next_block whole) (gives made (propose_spelling me (next_block whole))))));
+                (to_each (range_with_len 0 s.n)
+                (message_spelling (messages.Propose me (next_block whole) (gives made (propose_spelling me (next_block whole))))));
             state = state_at (before after_form) (made + 1) capacity;
           }
       unfolding vote_done
       is_last made capacity high asked all room =
-          rw (in_time rest high asked, not_yet rest votes orders kept run (omega (arith, turn)), is.view, is.block, is.order, formed_some all, keeping_none all) (form made capacity high room)
+          rw (in_time rest high asked, not_yet rest votes orders kept run (omega (arith, turn)), is.view, is.block, is.order, formed_some all, keeping_none all)
+          (form made capacity high room)

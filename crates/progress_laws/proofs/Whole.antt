@@ -42,10 +42,13 @@ pub record Laws : Type 0 where
   pub batches : (g : Graph) → IsGraph g → IsComplete g → AreBatches g (batches_of g)
   pub graphs : (s : Parameters) (chain : List BlockLists) → All (λ b. AreFresh b.fresh) chain → All IsGraph (proposals s chain)
   pub first_edges : (s : Parameters) (vertices : List Tx) (blocks : List (List (List Tx))) → HasFirstEdges s blocks (graph_over s vertices blocks)
-  pub step : (s : Parameters) (chain : List BlockLists) (b : BlockLists) → All (λ c. AreFresh c.fresh) chain → standing_for s (chain ++ b ∷ []) ≡ applied (standing_for s chain) b
+  pub step : (s : Parameters) (chain : List BlockLists) (b : BlockLists) → All (λ c. AreFresh c.fresh) chain
+      → standing_for s (chain ++ b ∷ []) ≡ applied (standing_for s chain) b
   pub finals_are : (s : Parameters) (chain : List BlockLists) → finals (standing_for s chain) ≡ final_of s chain
-  pub final : (s : Parameters) (chain : List BlockLists) → All (λ b. AreFresh b.fresh) chain → (many : ℕ) × AreFinalBatches (proposals s chain) (final_of s chain) many
-  pub apart : (vertices : List Tx) (u v : ℕ) (d : Tx) → IsStrictlySortedBy tx_cmp vertices → u < length vertices → v < length vertices → u ≢ v → get_or vertices u d ≡ get_or vertices v d → ⊥
+  pub final : (s : Parameters) (chain : List BlockLists) → All (λ b. AreFresh b.fresh) chain
+      → (many : ℕ) × AreFinalBatches (proposals s chain) (final_of s chain) many
+  pub apart : (vertices : List Tx) (u v : ℕ) (d : Tx) → IsStrictlySortedBy tx_cmp vertices → u < length vertices → v < length vertices
+      → u ≢ v → get_or vertices u d ≡ get_or vertices v d → ⊥
 
 pub filter_all : {X : Type 0} (p : X → Bool) (xs : List X) → Each (λ x. p x ≡ true) xs → filter p xs ≡ xs
 filter_all p [] each = refl
@@ -85,7 +88,8 @@ module _ (s : Parameters) (bs : List Block) (chain : IsChain bs) (b : Block) (fi
 -- ---- its fresh lists
 
 -- the lists of this many replicas, which hold the same
-module _ (laws : Laws) (s : Parameters) (valid : IsValid s) (all : List Tx) (fresh : List (List Tx)) (count : length fresh ≡ quorum_of s) (short : Each (λ list. length list ≤ 128) fresh)
+module _ (laws : Laws) (s : Parameters) (valid : IsValid s) (all : List Tx) (fresh : List (List Tx)) (count : length fresh ≡ quorum_of s)
+    (short : Each (λ list. length list ≤ 128) fresh)
     (same : Each (λ list. (t : Tx) → holds t list ≡ holds t all) fresh) (few : s.n ≤ 16) where
   each_short : (lists : List (List Tx)) → Each (λ list. length list ≤ 128) lists → All (λ list. length list ≤ 128) lists
   each_short [] each = All-nil (λ list. length list ≤ 128)
@@ -94,7 +98,8 @@ module _ (laws : Laws) (s : Parameters) (valid : IsValid s) (all : List Tx) (fre
   are_fresh : AreFresh fresh
   are_fresh = record { few = omega (arith, count, few); short = each_short fresh short }
 
-  all_hold : (t : Tx) (x : Bool) → holds t all ≡ x → (lists : List (List Tx)) → Each (λ list. (t : Tx) → holds t list ≡ holds t all) lists → Each (λ list. holds t list ≡ x) lists
+  all_hold : (t : Tx) (x : Bool) → holds t all ≡ x → (lists : List (List Tx)) → Each (λ list. (t : Tx) → holds t list ≡ holds t all) lists
+      → Each (λ list. holds t list ≡ x) lists
   all_hold t x is [] each = tt
   all_hold t x is (l ∷ lists) each = (each.0 t ∙ is, all_hold t x is lists each.1)
 
@@ -110,7 +115,9 @@ module _ (laws : Laws) (s : Parameters) (valid : IsValid s) (all : List Tx) (fre
   -- what all lists hold is kept
   held_kept : (t : Tx) → holds t all ≡ true → holds t V ≡ true
   held_kept t is = ((laws.kept s fresh are_fresh).each t).1 (record {
-    candidate = (let low : threshold_of s ≤ solid_of s = laws.thresholds s valid in let solid : solid_of s ≤ listed fresh t = is_solid t is in omega (arith, low, solid));
+    candidate =
+        (let low : threshold_of s ≤ solid_of s = laws.thresholds s valid in let solid : solid_of s ≤ listed fresh t = is_solid t is in
+        omega (arith, low, solid));
     leads = (t, is_solid t is, ([], refl));
   })
 
@@ -118,7 +125,8 @@ module _ (laws : Laws) (s : Parameters) (valid : IsValid s) (all : List Tx) (fre
   kept_held : (t : Tx) → holds t V ≡ true → holds t all ≡ true
   kept_held t kept = elim (cases_Bool (holds t all)) [
     | inl is ↦ is
-    | inr not ↦ absurd (let some : 1 ≤ listed fresh t = laws.listed_once s fresh t are_fresh kept in let none : listed fresh t ≡ 0 = count_none (holds t) fresh (all_hold t false not fresh same) in omega (arith, some, none))
+    | inr not ↦ absurd (let some : 1 ≤ listed fresh t = laws.listed_once s fresh t are_fresh kept in
+        let none : listed fresh t ≡ 0 = count_none (holds t) fresh (all_hold t false not fresh same) in omega (arith, some, none))
   ]
 
   abbrev lists_only : List (List Tx) → BlockLists
@@ -142,9 +150,12 @@ module _ (laws : Laws) (s : Parameters) (valid : IsValid s) (all : List Tx) (fre
   complete u v inside_u inside_v other missing =
       let (a, at_u) = found_at V u inside_u in
       let (b, at_v) = found_at V v inside_v in
-      let different : a ≢ b = λ one. laws.apart V u v a is_graph.ascending inside_u inside_v other (get_or_from_slice_get V u a a at_u ∙ one ∙ sym (get_or_from_slice_get V v b a at_v)) in
+      let different : a ≢ b =
+      λ one. laws.apart V u v a is_graph.ascending inside_u inside_v other
+      (get_or_from_slice_get V u a a at_u ∙ one ∙ sym (get_or_from_slice_get V v b a at_v)) in
       let solid : solid_of s ≤ listed fresh a = is_solid a (kept_held a (place_holds V u a at_u)) in
-      no_edge_missing (edge_between s fresh a b) (laws.edges s fresh a b valid solid different) (sym (laws.first_edges s V (fresh ∷ []) u v a b at_u at_v) ∙ missing)
+      no_edge_missing (edge_between s fresh a b) (laws.edges s fresh a b valid solid different)
+      (sym (laws.first_edges s V (fresh ∷ []) u v a b at_u at_v) ∙ missing)
 
   batches_hold : (t : Tx) → holds t all ≡ true → list_any (holds t) (batches_of g) ≡ true
   batches_hold t is =
@@ -157,7 +168,8 @@ module _ (laws : Laws) (s : Parameters) (valid : IsValid s) (all : List Tx) (fre
       ap finals (sym (laws.step s [] (lists_only late) (All-nil (λ (b : BlockLists). AreFresh b.fresh)))) ∙ laws.finals_are s (lists_only late ∷ [])
       ∙ (let (many, is) = laws.final s (lists_only late ∷ []) (fresh_chain late) in by many is)
     where
-      by : (many : ℕ) → AreFinalBatches (proposals s (lists_only late ∷ [])) (final_of s (lists_only late ∷ [])) many → final_of s (lists_only late ∷ []) ≡ batches_of g
+      by : (many : ℕ) → AreFinalBatches (proposals s (lists_only late ∷ [])) (final_of s (lists_only late ∷ [])) many
+          → final_of s (lists_only late ∷ []) ≡ batches_of g
       by zero is = absurd (is.next (omega arith) g complete)
       by (suc zero) is = is.theirs ∙ append-nil (batches_of g)
       by (suc (suc m)) is = absurd (let inside : suc (suc m) ≤ 1 = is.inside in omega (arith, inside))

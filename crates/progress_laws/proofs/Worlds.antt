@@ -56,12 +56,15 @@ pub record Passed (n from : ℕ) (queue : List Envelope) (sends : List Outgoing)
   pub links : AreClear n w.links
   pub queue_is : w.queue ≡ queue ++ map (envelope from) sends
 
-pub pass_all : (n from : ℕ) (links : List Link) (queue : List Envelope) (sends : List Outgoing) → AreClear n links → AreWithin n sends → Passed n from queue sends (fold (sent from) (way links queue) sends)
+pub pass_all : (n from : ℕ) (links : List Link) (queue : List Envelope) (sends : List Outgoing) → AreClear n links → AreWithin n sends
+    → Passed n from queue sends (fold (sent from) (way links queue) sends)
 pass_all n from links queue [] clear within = record { links = clear; queue_is = sym (append-nil queue) }
 pass_all n from links queue (s ∷ sends) clear within =
     let (link, found) = found_at links s.to (omega (arith, clear.count, within.0)) in
-    let one : sent from (way links queue) s ≡ way (slice_set links s.to (passed link s.bytes)) (queue ++ envelope from s ∷ []) = rw (found, given_clear link s.bytes (clear.each s.to link found)) in
-    let rest : Passed n from (queue ++ envelope from s ∷ []) sends (fold (sent from) (way (slice_set links s.to (passed link s.bytes)) (queue ++ envelope from s ∷ [])) sends) =
+    let one : sent from (way links queue) s ≡ way (slice_set links s.to (passed link s.bytes)) (queue ++ envelope from s ∷ []) =
+    rw (found, given_clear link s.bytes (clear.each s.to link found)) in
+    let rest : Passed n from (queue ++ envelope from s ∷ []) sends
+    (fold (sent from) (way (slice_set links s.to (passed link s.bytes)) (queue ++ envelope from s ∷ [])) sends) =
     pass_all n from (slice_set links s.to (passed link s.bytes)) (queue ++ envelope from s ∷ []) sends
     (record {
       count = length_set links s.to (passed link s.bytes) ∙ clear.count;
@@ -87,7 +90,8 @@ world_after w at r e o passed = record w { replicas = slice_set w.replicas at (f
 
 -- the replica is there still, with a longer journal
 pub record Grew (now later : World) : Type 0 where
-  pub each : (i : ℕ) (r : Replica) → slice_get now.replicas i ≡ Some r → (x : Replica) × (more : List Entry) × (slice_get later.replicas i ≡ Some x) × (x.journal ≡ r.journal ++ more)
+  pub each : (i : ℕ) (r : Replica) → slice_get now.replicas i ≡ Some r
+      → (x : Replica) × (more : List Entry) × (slice_get later.replicas i ≡ Some x) × (x.journal ≡ r.journal ++ more)
 
 pub grew_same : (w : World) → Grew w w
 grew_same w = record { each = λ i r found. (r, [], found, sym (append-nil r.journal)) }
@@ -100,12 +104,14 @@ grew_on a b c x y = record {
       (r2, more1 ++ more2, found2, is2 ∙ ap (λ (es : List Entry). es ++ more2) is1 ∙ append_assoc r.journal more1 more2);
 }
 
-grew_set : (w : World) (at : ℕ) (old new : Replica) (more : List Entry) (v : World) → slice_get w.replicas at ≡ Some old → new.journal ≡ old.journal ++ more → v.replicas ≡ slice_set w.replicas at new → Grew w v
+grew_set : (w : World) (at : ℕ) (old new : Replica) (more : List Entry) (v : World) → slice_get w.replicas at ≡ Some old
+    → new.journal ≡ old.journal ++ more → v.replicas ≡ slice_set w.replicas at new → Grew w v
 grew_set w at old new more v found is set = record {
   each = λ i r at_i. by i r at_i (cases_eq at i);
 }
   where
-    by : (i : ℕ) (r : Replica) → slice_get w.replicas i ≡ Some r → (at ≡ i) ⊎ (at ≡ i → ⊥) → (x : Replica) × (more : List Entry) × (slice_get v.replicas i ≡ Some x) × (x.journal ≡ r.journal ++ more)
+    by : (i : ℕ) (r : Replica) → slice_get w.replicas i ≡ Some r → (at ≡ i) ⊎ (at ≡ i → ⊥)
+        → (x : Replica) × (more : List Entry) × (slice_get v.replicas i ≡ Some x) × (x.journal ≡ r.journal ++ more)
     by i r at_i (inl same) =
         let one : Some old ≡ Some r = sym found ∙ ap (slice_get w.replicas) same ∙ at_i in
         let is_old : old ≡ r = cc in (
@@ -136,7 +142,8 @@ module _ (fits : Check) (plan : Plan) (faulty : plan.faulty ≡ []) where
           let o : Outcome = outcome r e in
           let passed : Way = sent_all at (way r.links w.queue) o.reported.sends in
           let same : event_for fits plan w at e (Some r) ≡ world_after w at r e o passed = sym (ap (event_for fits plan w at e) is) ∙ event_is w at e r is in
-          subst (Grew w) (sym same) (grew_set w at r (following r e o passed.links) (record { event = e; turned = o.reported } ∷ []) (world_after w at r e o passed) is refl refl)
+          subst (Grew w) (sym same) (grew_set w at r (following r e o passed.links) (record { event = e; turned = o.reported } ∷ [])
+          (world_after w at r e o passed) is refl refl)
 
   grew_taken : (w : World) (at : ℕ) → Grew w (taken_at w at)
   unfolding taken_at
@@ -159,7 +166,8 @@ module _ (fits : Check) (plan : Plan) (faulty : plan.faulty ≡ []) where
 
   pub grew_ticks : (floor : ℕ) (w : World) (replicas : List ℕ) → Grew w (ticked_over fits plan floor w replicas)
   grew_ticks floor w [] = grew_same w
-  grew_ticks floor w (at ∷ replicas) = grew_on w (event_at fits plan w at (Tick floor)) _ (grew_event w at (Tick floor)) (grew_ticks floor (event_at fits plan w at (Tick floor)) replicas)
+  grew_ticks floor w (at ∷ replicas) = grew_on w (event_at fits plan w at (Tick floor)) _ (grew_event w at (Tick floor))
+      (grew_ticks floor (event_at fits plan w at (Tick floor)) replicas)
 
   pub grew_step : (w : World) → Grew w (step fits plan w).world
   unfolding step give_arrivals advanced tick_all
@@ -188,6 +196,7 @@ module _ (fits : Check) (plan : Plan) (faulty : plan.faulty ≡ []) where
   grew_run w zero = grew_same w
   grew_run w (suc steps) = by (step fits plan w).goes_on (grew_run (step fits plan w).world steps)
     where
-      by : (t : Bool) → Grew (step fits plan w).world (run_for fits plan (step fits plan w).world steps) → Grew w (if t then run_for fits plan (step fits plan w).world steps else (step fits plan w).world)
+      by : (t : Bool) → Grew (step fits plan w).world (run_for fits plan (step fits plan w).world steps)
+          → Grew w (if t then run_for fits plan (step fits plan w).world steps else (step fits plan w).world)
       by true later = grew_on w (step fits plan w).world _ (grew_step w) later
       by false later = grew_step w

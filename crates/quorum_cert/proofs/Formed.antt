@@ -107,7 +107,8 @@ module _ (fits : ℕ → List ℕ → List ℕ → Bool) (s : Parameters) (view 
   below_too : (b : Box) (v : Vote) → IsBox b → IsOwn b v → All (λ v. v.replica < s.n) (with_vote (bare v) b.votes)
   below_too b v is own = all_inserted (λ w. w.replica < s.n) (bare v) b.votes _ own.below is.below
 
-  fit_too : (b : Box) (v : Vote) → IsBox b → IsOwn b v → All (λ v. fits v.replica (vote_spelling v.replica view block) v.seal ≡ true) (with_vote (bare v) b.votes)
+  fit_too : (b : Box) (v : Vote) → IsBox b → IsOwn b v
+      → All (λ v. fits v.replica (vote_spelling v.replica view block) v.seal ≡ true) (with_vote (bare v) b.votes)
   fit_too b v is own = all_inserted (λ w. fits w.replica (vote_spelling w.replica view block) w.seal ≡ true) (bare v) b.votes _ own.fit is.fit
 
   with_own : (b : Box) (v : Vote) → IsBox b → IsOwn b v → IsBox (kept_in b (bare v))
@@ -121,7 +122,8 @@ module _ (fits : ℕ → List ℕ → List ℕ → Bool) (s : Parameters) (view 
         of_view = is.of_view;
         of_block = is.of_block;
         kept = more_kept s (bare v) b.votes is.kept (or_parts b.formed (has_vote b.votes v.replica) new).1
-            (subst (λ (x : Parameters). length (with_vote (bare v) b.votes) < quorum_of x) is.setting (ltb-true (length (with_vote (bare v) b.votes)) (quorum_of b.setting) wants));
+            (subst (λ (x : Parameters). length (with_vote (bare v) b.votes) < quorum_of x) is.setting
+            (ltb-true (length (with_vote (bare v) b.votes)) (quorum_of b.setting) wants));
         below = below_too b v is own;
         fit = fit_too b v is own;
       })
@@ -170,7 +172,8 @@ module _ (fits : ℕ → List ℕ → List ℕ → Bool) (s : Parameters) (view 
   take_forms above some b v is =
       let P : Took → Type 0 = FormsGood in
       cond_both (is_foreign b v) Foreign (cond (seal_fits fits v) (keep_answer b (bare v)) BadSeal) P (λ foreign c same. absurd (cc))
-      (λ own. cond_both (seal_fits fits v) (keep_answer b (bare v)) BadSeal P (λ fit. keep_forms above some b v is (own_vote b v is own fit)) (λ unfit c same. absurd (cc)))
+      (λ own. cond_both (seal_fits fits v) (keep_answer b (bare v)) BadSeal P
+      (λ fit. keep_forms above some b v is (own_vote b v is own fit)) (λ unfit c same. absurd (cc)))
 
   pub formed_is_good : (votes : List Vote) (last : Vote) (c : Cert) → IsValid s → 1 ≤ view
       → take_answer fits (after fits (empty_box s view block) votes) last ≡ Formed c → HasQuorum fits s c × (c.view ≡ view) × (c.block ≡ block)

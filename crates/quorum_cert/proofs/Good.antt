@@ -28,7 +28,8 @@ first_shows c holds =
 first_holds : (c : Cert) → IsFirstCert c → is_first c ≡ true
 first_holds c first =
     and_from (c.view == 0) _ (eq-eqb c.view 0 first.view)
-    (and_from (digest_eq c.block first_digest) (length c.votes == 0) ((digest_eq_decides c.block first_digest).1 first.block) (eq-eqb (length c.votes) 0 (ap length first.votes)))
+    (and_from (digest_eq c.block first_digest) (length c.votes == 0) ((digest_eq_decides c.block first_digest).1 first.block)
+    (eq-eqb (length c.votes) 0 (ap length first.votes)))
 
 module _ (fits : ℕ → List ℕ → List ℕ → Bool) (s : Parameters) (c : Cert) where
   quorum_shows : (has_quorum s c && seals_fit fits c) ≡ true → HasQuorum fits s c

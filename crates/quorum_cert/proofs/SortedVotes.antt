@@ -49,9 +49,11 @@ rise_inserted v (w ∷ votes) rise new =
           (all_inserted (λ u. w.replica < u.replica) v votes (place_in votes v.replica) less (rise_first w votes rise))
           (rise_inserted v votes (rise_rest w votes rise) parts.1))
       | inr (inr more) ↦
-          let later : All (λ u. v.replica < u.replica) votes = All-weaker (λ u. w.replica < u.replica) (λ u. v.replica < u.replica) (λ u above. (omega (arith, above, more))) votes (rise_first w votes rise) in
+          let later : All (λ u. v.replica < u.replica) votes = All-weaker (λ u. w.replica < u.replica) (λ u. v.replica < u.replica)
+          (λ u above. (omega (arith, above, more))) votes (rise_first w votes rise) in
           let all : All (λ u. v.replica < u.replica) (w ∷ votes) = All-cons (λ u. v.replica < u.replica) w votes more later in
-          rw (place_none v.replica (w ∷ votes) (All-weaker (λ u. v.replica < u.replica) (λ u. v.replica ≤ u.replica) (λ u above. (omega (arith, above))) (w ∷ votes) all))
+          rw (place_none v.replica (w ∷ votes)
+          (All-weaker (λ u. v.replica < u.replica) (λ u. v.replica ≤ u.replica) (λ u above. (omega (arith, above))) (w ∷ votes) all))
           (rise_cons v (w ∷ votes) all rise)
     ]
 
@@ -88,7 +90,8 @@ within_shows n least (v ∷ votes) holds =
     record {
       from = All-cons (λ w. least ≤ w.replica) v votes from
           (All-weaker (λ w. v.replica + 1 ≤ w.replica) (λ w. least ≤ w.replica) (λ w above. (omega (arith, above, from))) votes rest.from);
-      rise = rise_cons v votes (All-weaker (λ w. v.replica + 1 ≤ w.replica) (λ w. v.replica < w.replica) (λ w above. (omega (arith, above))) votes rest.from) rest.rise;
+      rise = rise_cons v votes
+          (All-weaker (λ w. v.replica + 1 ≤ w.replica) (λ w. v.replica < w.replica) (λ w above. (omega (arith, above))) votes rest.from) rest.rise;
       below = All-cons (λ w. w.replica < n) v votes (ltb-true v.replica n here.1) rest.below;
     }
 

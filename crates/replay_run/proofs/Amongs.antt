@@ -19,7 +19,8 @@ use Rattle.replay_run.specs.Step.{arrived_at, holds_due_at, taken_at}
 use Rattle.replica_seat.specs.declared.seat.Envelope.{Envelope}
 
 module _ {S : Type 0} (m : Meaning S) where
-  here_too : (seats : List (Seated S)) (at : ℕ) (seat : Seated S) → slice_get seats at ≡ Some seat → slice_get (map (replica_of m) seats) at ≡ Some (replica_of m seat)
+  here_too : (seats : List (Seated S)) (at : ℕ) (seat : Seated S) → slice_get seats at ≡ Some seat
+      → slice_get (map (replica_of m) seats) at ≡ Some (replica_of m seat)
   here_too seats at seat here = rw (slice_get-map, here) refl
 
   gone_too : (seats : List (Seated S)) (at : ℕ) → slice_get seats at ≡ None → slice_get (map (replica_of m) seats) at ≡ None
@@ -49,7 +50,8 @@ module _ {S : Type 0} (m : Meaning S) where
       rw (found, ← same, ← same_queue) refl
 
   -- what arrived is taken at one seat
-  pub taken_one : (seats : List (Seated S)) (at turns : ℕ) (seat after : Seated S) → slice_get seats at ≡ Some seat → after ≡ record seat { feed = after_giving turns seat.feed }
+  pub taken_one : (seats : List (Seated S)) (at turns : ℕ) (seat after : Seated S) → slice_get seats at ≡ Some seat
+      → after ≡ record seat { feed = after_giving turns seat.feed }
       → (w : World) → w.replicas ≡ map (replica_of m) seats → w.turns ≡ turns
       → taken_at w at ≡ record w { replicas = map (replica_of m) (slice_set seats at after) }
   unfolding taken_at
@@ -107,7 +109,8 @@ pub waits_elsewhere : {S : Type 0} (due : List Tx) (seats : List (Seated S)) (at
 waits_elsewhere due seats at waiting after other = rw (set_elsewhere seats at waiting after other) refl
 
 -- what arrived may be taken
-pub waits_still : {S : Type 0} (due : List Tx) (seats : List (Seated S)) (at waiting : ℕ) (seat after : Seated S) → slice_get seats at ≡ Some seat → after.node ≡ seat.node
+pub waits_still : {S : Type 0} (due : List Tx) (seats : List (Seated S)) (at waiting : ℕ) (seat after : Seated S)
+    → slice_get seats at ≡ Some seat → after.node ≡ seat.node
     → waits_at due (slice_set seats at after) waiting ≡ waits_at due seats waiting
 waits_still due seats at waiting seat after here same =
     elim (cases_Bool (waiting == at)) [
@@ -118,7 +121,8 @@ waits_still due seats at waiting seat after here same =
     ]
 
 -- a seat gets another node
-pub reseat_one : {S : Type 0} (seats : List (Seated S)) (at : ℕ) (seat after : Seated S) (node : NodeValue S) → slice_get seats at ≡ Some seat → after ≡ record seat { node = node }
+pub reseat_one : {S : Type 0} (seats : List (Seated S)) (at : ℕ) (seat after : Seated S) (node : NodeValue S)
+    → slice_get seats at ≡ Some seat → after ≡ record seat { node = node }
     → slice_set seats at after ≡ reseated seats at node
 unfolding reseated
 reseat_one seats at seat after node here is = rw (here, is) refl

@@ -51,7 +51,8 @@ exchanged P xs xs2 ys ys2 at xs_else ys_else here all p x y has_x has_y =
     ]
 
 -- of two lists of one length, what one has at a place the other has too
-pub found_too : {X Y : Type 0} (xs : List X) (ys : List Y) (at : ℕ) (x : X) → length xs ≡ length ys → slice_get xs at ≡ Some x → (y : Y) × (slice_get ys at ≡ Some y)
+pub found_too : {X Y : Type 0} (xs : List X) (ys : List Y) (at : ℕ) (x : X) → length xs ≡ length ys → slice_get xs at ≡ Some x
+    → (y : Y) × (slice_get ys at ≡ Some y)
 found_too [] ys at x same has = cc
 found_too (a ∷ xs) [] at x same has = absurd (omega arith)
 found_too (a ∷ xs) (b ∷ ys) zero x same has = (b, refl)
@@ -60,17 +61,21 @@ found_too (a ∷ xs) (b ∷ ys) (suc at) x same has = found_too xs ys at x (omeg
 -- ---- the keeper at a place
 
 module _ {K : Type 0} (m : Meant K) where
-  pub kept_there : (event : Event) (at : ℕ) (value items : List (Keeping K)) (old after : Keeping K) → items ≡ value → at < length items → old ≡ get_or items at old
+  pub kept_there : (event : Event) (at : ℕ) (value items : List (Keeping K)) (old after : Keeping K) → items ≡ value → at < length items
+      → old ≡ get_or items at old
       → HasKeptOne m event old after → HasKept m event at value (slice_set items at after)
   kept_there event at value items old after same within is one =
-      let here : slice_get value at ≡ Some old = ap (λ (xs : List (Keeping K)). slice_get xs at) (sym same) ∙ slice_get-get_or items at old within ∙ ap Some (sym is) in
+      let here : slice_get value at ≡ Some old = ap (λ (xs : List (Keeping K)). slice_get xs at) (sym same)
+      ∙ slice_get-get_or items at old within ∙ ap Some (sym is) in
       record {
         kept = subst (λ (f : Option (Keeping K)). HasKeptAt m event at value f (slice_set items at after)) (sym here)
             (after, one, ap (λ (xs : List (Keeping K)). slice_set xs at after) same);
       }
 
-  pub fault_there : {X : Type 0} (at : ℕ) (value items : List (Keeping K)) (old after : Keeping K) → items ≡ value → at < length items → old ≡ get_or items at old
-      → (result : Result X StepFault) → IfErr result (IsLogFault at (m.faults old.keeper) (m.faults after.keeper)) → IfErr result (IsKeepFault m at value (slice_set items at after))
+  pub fault_there : {X : Type 0} (at : ℕ) (value items : List (Keeping K)) (old after : Keeping K) → items ≡ value → at < length items
+      → old ≡ get_or items at old
+      → (result : Result X StepFault) → IfErr result (IsLogFault at (m.faults old.keeper) (m.faults after.keeper))
+      → IfErr result (IsKeepFault m at value (slice_set items at after))
   fault_there at value items old after same within is (Ok x) h = tt
   fault_there at value items old after same within is (Err (Keep replica)) h =
       let there : slice_get items at ≡ Some old = slice_get-get_or items at old within ∙ ap Some (sym is) in
@@ -85,7 +90,8 @@ module _ {K : Type 0} (m : Meant K) where
 
 module _ {K : Type 0} (m : Meant K) (fits : Check) (plan : Plan) (l : Incarnations) where
   -- one entry more, whose event its keeper has logged
-  log_more : (at : ℕ) (event : Event) (before : List ℕ) (k : K) (now : List ℕ) (after : K) (r s : Replica) (reported : Entry) → reported.event ≡ event → s.number ≡ r.number → s.gives ≡ r.gives
+  log_more : (at : ℕ) (event : Event) (before : List ℕ) (k : K) (now : List ℕ) (after : K) (r s : Replica) (reported : Entry)
+      → reported.event ≡ event → s.number ≡ r.number → s.gives ≡ r.gives
       → s.journal ≡ r.journal ++ reported ∷ [] → s.state ≡ state_after fits r.gives r.state (event ∷ [])
       → HasLogged m event before k now after → HoldsLogOf m fits plan l at k r → before ≡ log_digest (header_at plan at) (events_of r.journal)
       → HoldsLogOf m fits plan l at after s × (now ≡ log_digest (header_at plan at) (events_of s.journal))
@@ -104,11 +110,13 @@ module _ {K : Type 0} (m : Meant K) (fits : Check) (plan : Plan) (l : Incarnatio
               ∙ ap (λ (t : List ℕ). header ++ t) (sym (log_append header before event) ∙ ap (LogOf header) (sym events));
           durable_size = logged.durable_size;
           each = subst (All CanBeKept) (sym events) (All-append CanBeKept before (event ∷ []) kept.each (All-one event logged.can));
-          state = state ∙ ap (λ (g : Gives). state_after fits g r.state (event ∷ [])) kept.gives ∙ ap (λ (s : State). state_after fits (l.gives at) s (event ∷ [])) kept.state
+          state = state ∙ ap (λ (g : Gives). state_after fits g r.state (event ∷ [])) kept.gives
+              ∙ ap (λ (s : State). state_after fits (l.gives at) s (event ∷ [])) kept.state
               ∙ sym (state-append fits (l.gives at) opening before (event ∷ [])) ∙ ap (state_after fits (l.gives at) opening) (sym events);
           starts = logged.openings ∙ kept.starts;
         },
-        logged.moved ∙ ap (λ (d : List ℕ). next_digest d (body_of event)) here ∙ sym (digest_one (header_digest header) before event) ∙ ap (log_digest header) (sym events),
+        logged.moved ∙ ap (λ (d : List ℕ). next_digest d (body_of event)) here ∙ sym (digest_one (header_digest header) before event)
+            ∙ ap (log_digest header) (sym events),
       )
 
   -- an event that was kept, and the replica's turn on it
@@ -124,8 +132,10 @@ module _ {K : Type 0} (m : Meant K) (fits : Check) (plan : Plan) (l : Incarnatio
             let same : acted fits plan at r event ≡ node_acted r o = ap (λ (b : Bool). if b then deeds_acted plan r o else node_acted r o) is_honest in
             let h = kept.honest is_honest in
             let more : HoldsLogOf m fits plan l at after.keeper s × (after.digest ≡ log_digest (header_at plan at) (events_of s.journal)) =
-            log_more at event k.digest k.keeper after.digest after.keeper r s (record { event = event; turned = o.reported }) refl refl refl refl refl (one.logged h.0) h.1 h.2 in
-            let both = subst (λ (a : After). HoldsLogOf m fits plan l at after.keeper a.replica × (after.digest ≡ log_digest (header_at plan at) (events_of a.replica.journal)))
+            log_more at event k.digest k.keeper after.digest after.keeper r s
+            (record { event = event; turned = o.reported }) refl refl refl refl refl (one.logged h.0) h.1 h.2 in
+            let both = subst (λ (a : After). HoldsLogOf m fits plan l at after.keeper a.replica
+            × (after.digest ≡ log_digest (header_at plan at) (events_of a.replica.journal)))
             (sym (ap (after_acted at queue event) same)) more in
             (one.same ∙ h.0, both.0, both.1);
       }
@@ -154,7 +164,8 @@ module _ {K : Type 0} (m : Meant K) (fits : Check) (plan : Plan) (l : Incarnatio
   event_here : (w : World) (at : ℕ) (event : Event) (old new : List (Keeping K)) (k_found : Option (Keeping K)) (r_found : Option Replica)
       → slice_get old at ≡ k_found → slice_get w.replicas at ≡ r_found → HasKeptAt m event at old k_found new
       → ((k : Keeping K) (r : Replica) → slice_get old at ≡ Some k → slice_get w.replicas at ≡ Some r → IsKeptBy m fits plan l at k r)
-      → (x : Keeping K) (s : Replica) → slice_get new at ≡ Some x → slice_get (event_for fits plan w at event r_found).replicas at ≡ Some s → IsKeptBy m fits plan l at x s
+      → (x : Keeping K) (s : Replica) → slice_get new at ≡ Some x → slice_get (event_for fits plan w at event r_found).replicas at ≡ Some s
+      → IsKeptBy m fits plan l at x s
   event_here w at event old new None r_found k_is r_is same all x s has_x has_s =
       absurd (none-some x (sym k_is ∙ ap (λ (ks : List (Keeping K)). slice_get ks at) (sym same) ∙ has_x))
   event_here w at event old new (Some k) None k_is r_is h all x s has_x has_s = absurd (none-some s (sym r_is ∙ has_s))
@@ -179,12 +190,24 @@ module _ {K : Type 0} (m : Meant K) (fits : Check) (plan : Plan) (l : Incarnatio
       }
 
   -- what arrived may be taken
-  fed_stays : (at : ℕ) (k : Keeping K) (r : Replica) (turns : ℕ) → IsKeptBy m fits plan l at k r → IsKeptBy m fits plan l at k (record r { feed = after_giving turns r.feed })
+  fed_stays : (at : ℕ) (k : Keeping K) (r : Replica) (turns : ℕ) → IsKeptBy m fits plan l at k r
+      → IsKeptBy m fits plan l at k (record r { feed = after_giving turns r.feed })
   fed_stays at k r turns kept = record {
     faults = kept.faults;
     honest = λ is_honest.
-        let h = kept.honest is_honest in
-        (h.0, record { number = h.1.number; gives = h.1.gives; log = h.1.log; durable_size = h.1.durable_size; each = h.1.each; state = h.1.state; starts = h.1.starts }, h.2);
+        let h = kept.honest is_honest in (
+          h.0,
+          record {
+            number = h.1.number;
+            gives = h.1.gives;
+            log = h.1.log;
+            durable_size = h.1.durable_size;
+            each = h.1.each;
+            state = h.1.state;
+            starts = h.1.starts;
+          },
+          h.2,
+        );
   }
 
   taken_each : (w : World) (at : ℕ) (keepers : List (Keeping K)) (found : Option Replica) → slice_get w.replicas at ≡ found
@@ -201,7 +224,8 @@ module _ {K : Type 0} (m : Meant K) (fits : Check) (plan : Plan) (l : Incarnatio
             (λ p other. kept.each p);
       }
 
-  pub taken_kept : (w : World) (at : ℕ) (keepers : List (Keeping K)) → AreKept m fits plan l keepers w.replicas → AreKept m fits plan l keepers (taken_at w at).replicas
+  pub taken_kept : (w : World) (at : ℕ) (keepers : List (Keeping K)) → AreKept m fits plan l keepers w.replicas
+      → AreKept m fits plan l keepers (taken_at w at).replicas
   unfolding taken_at
   taken_kept w at keepers kept = taken_each w at keepers (slice_get w.replicas at) refl kept
 
@@ -218,11 +242,13 @@ module _ {K S : Type 0} (m : Meant K) (means : Meaning S) (fits : Check) (plan :
   stays_both old middle new before between after one two = record { stays = λ l kept. two.stays l (one.stays l kept) }
 
   pub stop_after : (old middle new : List (Keeping K)) (before between : Net S) (fault : StepFault)
-      → StaysKept m means fits plan old before middle between → IsStop m means fits plan middle between new fault → IsStop m means fits plan old before new fault
+      → StaysKept m means fits plan old before middle between → IsStop m means fits plan middle between new fault
+      → IsStop m means fits plan old before new fault
   stop_after old middle new before between fault one two = record { cause = λ l kept. two.cause l (one.stays l kept) }
 
   pub goes_after : {X : Type 0} (old middle new : List (Keeping K)) (before between after : Net S) (result : Result X StepFault)
-      → StaysKept m means fits plan old before middle between → GoesKept m means fits plan middle between result new after → GoesKept m means fits plan old before result new after
+      → StaysKept m means fits plan old before middle between → GoesKept m means fits plan middle between result new after
+      → GoesKept m means fits plan old before result new after
   goes_after old middle new before between after (Ok x) one two = stays_both old middle new before between after one two
   goes_after old middle new before between after (Err fault) one two = stop_after old middle new before between fault one two
 
@@ -230,17 +256,20 @@ module _ {K S : Type 0} (m : Meant K) (means : Meaning S) (fits : Check) (plan :
   pub event_goes : (old new : List (Keeping K)) (before after : Net S) (at : ℕ) (event : Event) → HasKept m event at old new
       → world_of means after ≡ event_at fits plan (world_of means before) at event → StaysKept m means fits plan old before new after
   event_goes old new before after at event one is = record {
-    stays = λ l kept. subst (AreKept m fits plan l new) (ap (λ (w : World). w.replicas) (sym is)) (event_kept m fits plan l (world_of means before) at event old new one kept);
+    stays = λ l kept. subst (AreKept m fits plan l new) (ap (λ (w : World). w.replicas) (sym is))
+        (event_kept m fits plan l (world_of means before) at event old new one kept);
   }
 
   pub taken_goes : (keepers : List (Keeping K)) (before after : Net S) (at : ℕ) → world_of means after ≡ taken_at (world_of means before) at
       → StaysKept m means fits plan keepers before keepers after
   taken_goes keepers before after at is = record {
-    stays = λ l kept. subst (AreKept m fits plan l keepers) (ap (λ (w : World). w.replicas) (sym is)) (taken_kept m fits plan l (world_of means before) at keepers kept);
+    stays = λ l kept. subst (AreKept m fits plan l keepers) (ap (λ (w : World). w.replicas) (sym is))
+        (taken_kept m fits plan l (world_of means before) at keepers kept);
   }
 
   -- the keeper of the replica at a place has failed
-  rose_failed : (l : Incarnations) (at : ℕ) (old : List (Keeping K)) (replicas : List Replica) (found after : Option (Keeping K)) → slice_get old at ≡ found → RoseFrom m found after
+  rose_failed : (l : Incarnations) (at : ℕ) (old : List (Keeping K)) (replicas : List Replica) (found after : Option (Keeping K))
+      → slice_get old at ≡ found → RoseFrom m found after
       → AreKept m fits plan l old replicas → HasFailed m (l.faults at) after
   rose_failed l at old replicas None after is rose kept = absurd rose
   rose_failed l at old replicas (Some k) after is rose kept =
@@ -250,7 +279,8 @@ module _ {K S : Type 0} (m : Meant K) (means : Meaning S) (fits : Check) (plan :
       let failed : l.faults at < m.faults rose.0.keeper = omega arith in
       subst (HasFailed m (l.faults at)) (sym rose.1) failed
 
-  pub event_stops : (old new : List (Keeping K)) (before : Net S) (at : ℕ) (fault : StepFault) → IsKeepFault m at old new fault → IsStop m means fits plan old before new fault
+  pub event_stops : (old new : List (Keeping K)) (before : Net S) (at : ℕ) (fault : StepFault) → IsKeepFault m at old new fault
+      → IsStop m means fits plan old before new fault
   event_stops old new before at (Keep replica) h = record {
     cause = λ l kept. subst (λ (p : ℕ). HasFailed m (l.faults p) (slice_get new p)) (sym h.0)
         (rose_failed l at old (map (replica_of means) before.seats) (slice_get old at) (slice_get new at) refl h.1 kept);

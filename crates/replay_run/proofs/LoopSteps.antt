@@ -17,13 +17,15 @@ given_more fits plan w at n h =
     ap (λ k. given_over fits plan w (range_with_len at k)) e
 
 pub ticked_more : (fits : Check) (plan : Plan) (floor : ℕ) (w : World) (at n : ℕ) → at < n
-    → ticked_over fits plan floor w (range_with_len at (n - at)) ≡ ticked_over fits plan floor (event_at fits plan w at (Tick floor)) (range_with_len (at + 1) (n - (at + 1)))
+    → ticked_over fits plan floor w (range_with_len at (n - at))
+    ≡ ticked_over fits plan floor (event_at fits plan w at (Tick floor)) (range_with_len (at + 1) (n - (at + 1)))
 ticked_more fits plan floor w at n h =
     let e : n - at ≡ suc (n - (at + 1)) = omega arith in
     ap (λ k. ticked_over fits plan floor w (range_with_len at k)) e
 
 pub done_more : (plan : Plan) (w : World) (at n : ℕ) → at < n
-    → done_over plan w (range_with_len at (n - at)) ≡ ((is_among plan.faulty at || holds_due_at w at) && done_over plan w (range_with_len (at + 1) (n - (at + 1))))
+    → done_over plan w (range_with_len at (n - at))
+    ≡ ((is_among plan.faulty at || holds_due_at w at) && done_over plan w (range_with_len (at + 1) (n - (at + 1))))
 done_more plan w at n h =
     let e : n - at ≡ suc (n - (at + 1)) = omega arith in
     ap (λ k. done_over plan w (range_with_len at k)) e

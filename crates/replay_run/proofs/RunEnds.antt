@@ -43,14 +43,16 @@ list_stays (x ∷ replicas) zero r s found same =
     ap (λ (txs : List Tx). txs ∷ map (λ r. r.feed.txs) replicas) (same ∙ ap (λ (r : Replica). r.feed.txs) (sym is))
 list_stays (x ∷ replicas) (suc at) r s found same = ap (λ (lists : List (List Tx)). x.feed.txs ∷ lists) (list_stays replicas at r s found same)
 
-feed_stays : (fits : Check) (plan : Plan) (at : ℕ) (r : Replica) (queue : List Envelope) (event : Event) → (after_event fits plan at r queue event).replica.feed.txs ≡ r.feed.txs
+feed_stays : (fits : Check) (plan : Plan) (at : ℕ) (r : Replica) (queue : List Envelope) (event : Event)
+    → (after_event fits plan at r queue event).replica.feed.txs ≡ r.feed.txs
 unfolding after_event
 feed_stays fits plan at r queue event = elim (cases_Bool (is_among plan.faulty at)) [
   | inl holds_so ↦ rw holds_so refl
   | inr fails_so ↦ rw fails_so refl
 ]
 
-event_keeps_for : (fits : Check) (plan : Plan) (w : World) (at : ℕ) (event : Event) (r : Option Replica) → slice_get w.replicas at ≡ r → Keeps w (event_for fits plan w at event r)
+event_keeps_for : (fits : Check) (plan : Plan) (w : World) (at : ℕ) (event : Event) (r : Option Replica) → slice_get w.replicas at ≡ r
+    → Keeps w (event_for fits plan w at event r)
 event_keeps_for fits plan w at event None is = record { turns = refl; ticks = refl; due = refl; lists = refl }
 event_keeps_for fits plan w at event (Some r) is = record {
   turns = refl;

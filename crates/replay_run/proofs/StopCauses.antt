@@ -118,7 +118,8 @@ fresh_lists : (plan : Plan) (sealers : List Signer) → map (λ r. r.feed.txs) (
 fresh_lists plan [] = refl
 fresh_lists plan (s ∷ sealers) = ap (λ (lists : List (List Tx)). (feed_of plan s.replica).txs ∷ lists) (fresh_lists plan sealers)
 
-pub due_stays : (fits : Check) (plan : Plan) (sealers : List Signer) → (last_of fits plan sealers).due ≡ due_of plan.setting.n plan.faulty (lists_in (last_of fits plan sealers))
+pub due_stays : (fits : Check) (plan : Plan) (sealers : List Signer)
+    → (last_of fits plan sealers).due ≡ due_of plan.setting.n plan.faulty (lists_in (last_of fits plan sealers))
 unfolding start_of
 due_stays fits plan sealers =
     let s = run_same fits plan (steps_of plan) (start_of plan sealers) in

@@ -36,13 +36,15 @@ waits_not_done plan w at one waits =
     let fails : (is_among plan.faulty at || holds_due_at w at) ≡ false = rw (honest, waits) refl in
     range_fails (λ k. is_among plan.faulty k || holds_due_at w k) 0 plan.setting.n at (omega arith) (omega arith) fails
 
-pub known_waiting : {S : Type 0} (m : Meaning S) (plan : Plan) (net value : Net S) (at : ℕ) → net ≡ value → waits_at net.due net.seats at ≡ true → counts plan at ≡ true
+pub known_waiting : {S : Type 0} (m : Meaning S) (plan : Plan) (net value : Net S) (at : ℕ) → net ≡ value
+    → waits_at net.due net.seats at ≡ true → counts plan at ≡ true
     → false ≡ has_all_due plan (world_of m value)
 known_waiting m plan net value at same waits one =
     let is : holds_due_at (world_of m net) at ≡ false = not-true (holds_due_at (world_of m net) at) (sym (waits_of_seat m net at) ∙ waits) in
     sym (waits_not_done plan (world_of m value) at one (rw same at is))
 
-pub found_waiting : {S : Type 0} (m : Meaning S) (net value : Net S) (at : ℕ) → net ≡ value → holds_due_at (world_of m value) at ≡ false → waits_at net.due net.seats at ≡ true
+pub found_waiting : {S : Type 0} (m : Meaning S) (net value : Net S) (at : ℕ) → net ≡ value → holds_due_at (world_of m value) at ≡ false
+    → waits_at net.due net.seats at ≡ true
 found_waiting m net value at same waits =
     let is : holds_due_at (world_of m net) at ≡ false = rw (← same) at waits in
     waits_of_seat m net at ∙ ap not is

@@ -118,18 +118,22 @@ pub record HoldsLogOf {K : Type 0} (m : Meant K) (fits : Check) (plan : Plan) (l
 -- the keeper's faults holds.
 pub record IsKeptBy {K : Type 0} (m : Meant K) (fits : Check) (plan : Plan) (l : Incarnations) (at : ℕ) (k : Keeping K) (r : Replica) : Type 0 where
   pub faults : l.faults at ≤ m.faults k.keeper
-  pub honest : is_among plan.faulty at ≡ false → (k.on ≡ true) × HoldsLogOf m fits plan l at k.keeper r × (k.digest ≡ log_digest (header_at plan at) (events_of r.journal))
+  pub honest : is_among plan.faulty at ≡ false
+      → (k.on ≡ true) × HoldsLogOf m fits plan l at k.keeper r × (k.digest ≡ log_digest (header_at plan at) (events_of r.journal))
 
 -- the same for each replica
-pub record AreKept {K : Type 0} (m : Meant K) (fits : Check) (plan : Plan) (l : Incarnations) (keepers : List (Keeping K)) (replicas : List Replica) : Type 0 where
+pub record AreKept {K : Type 0} (m : Meant K) (fits : Check) (plan : Plan) (l : Incarnations) (keepers : List (Keeping K))
+    (replicas : List Replica) : Type 0 where
   pub count : length keepers ≡ length replicas
   pub each : (at : ℕ) (k : Keeping K) (r : Replica) → slice_get keepers at ≡ Some k → slice_get replicas at ≡ Some r → IsKeptBy m fits plan l at k r
 
 -- ---- over a part of a run
 
 -- what was logged stays logged
-pub record StaysKept {K S : Type 0} (m : Meant K) (means : Meaning S) (fits : Check) (plan : Plan) (old : List (Keeping K)) (before : Net S) (new : List (Keeping K)) (after : Net S) : Type 0 where
-  pub stays : (l : Incarnations) → AreKept m fits plan l old (map (replica_of means) before.seats) → AreKept m fits plan l new (map (replica_of means) after.seats)
+pub record StaysKept {K S : Type 0} (m : Meant K) (means : Meaning S) (fits : Check) (plan : Plan) (old : List (Keeping K)) (before : Net S)
+    (new : List (Keeping K)) (after : Net S) : Type 0 where
+  pub stays : (l : Incarnations) → AreKept m fits plan l old (map (replica_of means) before.seats)
+      → AreKept m fits plan l new (map (replica_of means) after.seats)
 
 -- there is a keeper, and it has failed more often than this
 abbrev pub HasFailed : {K : Type 0} → Meant K → ℕ → Option (Keeping K) → Type 0
@@ -142,7 +146,8 @@ IsStopFor m least new (Keep replica) = HasFailed m (least replica) (slice_get ne
 IsStopFor m least new NoMemory = ⊤
 
 -- why a run stopped, where everything was logged before
-pub record IsStop {K S : Type 0} (m : Meant K) (means : Meaning S) (fits : Check) (plan : Plan) (old : List (Keeping K)) (before : Net S) (new : List (Keeping K)) (fault : StepFault) : Type 0 where
+pub record IsStop {K S : Type 0} (m : Meant K) (means : Meaning S) (fits : Check) (plan : Plan) (old : List (Keeping K)) (before : Net S)
+    (new : List (Keeping K)) (fault : StepFault) : Type 0 where
   pub cause : (l : Incarnations) → AreKept m fits plan l old (map (replica_of means) before.seats) → IsStopFor m l.faults new fault
 
 -- A part of a run: everything stays logged, or the run stopped for a cause.

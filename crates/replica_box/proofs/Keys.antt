@@ -13,5 +13,6 @@ public_alone id seed H10 me = refl
 public_alone id seed H5H5 me = refl
 public_alone id seed H5H10 me = refl
 
-pub public_is : (id seed : List ℕ) (height : Height) (me : ℕ) (sealer : AnySealer) (public : List ℕ) → public ≡ any_public sealer → sealer ≡ any_sealer id seed height me → public ≡ key_of_secret id seed height
+pub public_is : (id seed : List ℕ) (height : Height) (me : ℕ) (sealer : AnySealer) (public : List ℕ) → public ≡ any_public sealer
+    → sealer ≡ any_sealer id seed height me → public ≡ key_of_secret id seed height
 public_is id seed height me sealer public of is = of ∙ ap any_public is ∙ public_alone id seed height me

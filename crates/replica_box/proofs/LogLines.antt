@@ -13,7 +13,8 @@ opened header events = record { line = tt; front = refl }
 
 -- ---- one event more
 
-front_more : (ready : List Prepared) (p : Prepared) (digest : List ℕ) → p.digest ≡ digest → front_digest (ready ++ p ∷ []) (digest_past p) ≡ front_digest ready digest
+front_more : (ready : List Prepared) (p : Prepared) (digest : List ℕ) → p.digest ≡ digest
+    → front_digest (ready ++ p ∷ []) (digest_past p) ≡ front_digest ready digest
 front_more [] p digest after = after
 front_more (q ∷ ready) p digest after = refl
 
@@ -21,7 +22,8 @@ line_more : (ready : List Prepared) (p : Prepared) (digest : List ℕ) → AreIn
 line_more [] p digest line after = (refl, tt)
 line_more (q ∷ ready) p digest line after = (line.0 ∙ sym (front_more ready p digest after), line_more ready p digest line.1 after)
 
-pub lined : (header : List ℕ) (events : List Event) (old new : Seat) (event : Event) → ContinuesLog header events old.ready old.digest → HasPrepared event old new
+pub lined : (header : List ℕ) (events : List Event) (old new : Seat) (event : Event) → ContinuesLog header events old.ready old.digest
+    → HasPrepared event old new
     → ContinuesLog header events new.ready new.digest
 lined header events old new event log prepared =
     let p = prepared.ready in
@@ -37,7 +39,8 @@ past_is : (e : Event) (has : Bool) (d : List ℕ)
 past_is e true d = refl
 past_is e false d = refl
 
-pub taken : (header : List ℕ) (events : List Event) (first : Prepared) (more : List Prepared) (digest : List ℕ) → ContinuesLog header events (first ∷ more) digest
+pub taken : (header : List ℕ) (events : List Event) (first : Prepared) (more : List Prepared) (digest : List ℕ)
+    → ContinuesLog header events (first ∷ more) digest
     → ContinuesLog header (events ++ recorded (first ∷ [])) more digest
 taken header events first more digest log = record {
   line = log.line.1;
@@ -47,14 +50,17 @@ taken header events first more digest log = record {
 
 -- ---- all records
 
-records_with : (e : Event) (has : Bool) (d : List ℕ) (ready : List Prepared) (digest : List ℕ) → digest_past (record { event = e; has_record = has; digest = d }) ≡ front_digest ready digest
+records_with : (e : Event) (has : Bool) (d : List ℕ) (ready : List Prepared) (digest : List ℕ)
+    → digest_past (record { event = e; has_record = has; digest = d }) ≡ front_digest ready digest
     → flat_map record_for ready ≡ records_of (front_digest ready digest) (recorded ready)
-    → flat_map record_for (record { event = e; has_record = has; digest = d } ∷ ready) ≡ records_of d (recorded (record { event = e; has_record = has; digest = d } ∷ ready))
+    → flat_map record_for (record { event = e; has_record = has; digest = d } ∷ ready)
+    ≡ records_of d (recorded (record { event = e; has_record = has; digest = d } ∷ ready))
 records_with e true d ready digest past rest =
     ap (λ (t : List ℕ). record_of d e ++ t) (rest ∙ ap (λ (x : List ℕ). records_of x (recorded ready)) (sym past))
 records_with e false d ready digest past rest = rest ∙ ap (λ (x : List ℕ). records_of x (recorded ready)) (sym past)
 
-records_are : (ready : List Prepared) (digest : List ℕ) → AreInLine ready digest → flat_map record_for ready ≡ records_of (front_digest ready digest) (recorded ready)
+records_are : (ready : List Prepared) (digest : List ℕ) → AreInLine ready digest
+    → flat_map record_for ready ≡ records_of (front_digest ready digest) (recorded ready)
 records_are [] digest line = refl
 records_are (p ∷ ready) digest line = records_with p.event p.has_record p.digest ready digest line.0 (records_are ready digest line.1)
 

@@ -16,7 +16,8 @@ short_good digest log at short bad =
     let none : records_in log ≡ [] = drop_all 76 log (omega (arith, short)) in
     never_both digest [] [] 0 at (read_whole_log digest [] (All-nil CanBeKept)) (subst (λ (r : List ℕ). IsBadAt digest r at) none bad)
 
-pub records_cause : (fault : OpenFault) (header log : List ℕ) → IsOwn header log → IsRecordsCause fault (header_digest header) (records_in log) → IsLogCause fault header log
+pub records_cause : (fault : OpenFault) (header log : List ℕ) → IsOwn header log
+    → IsRecordsCause fault (header_digest header) (records_in log) → IsLogCause fault header log
 records_cause Number header log own is = absurd is
 records_cause Views header log own is = absurd is
 records_cause Count header log own is = absurd is

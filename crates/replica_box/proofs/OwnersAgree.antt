@@ -12,8 +12,10 @@ use Rattle.replica_box.specs.Owners.{AreToldApart, HaveOneHeader, IsOwner, OpenA
 
 -- a log with a header has one owner, and a height one number: the laws of the layer below
 pub record OneOwner : Type 0 where
-  pub one : (s t : Parameters) (views later me other height grown : ℕ) (keys more log : List ℕ) → FitsHeader s views me height keys → FitsHeader t later other grown more
-      → HasHeader (header_of s views me height keys) log → IsOwn (header_of t later other grown more) log → (s ≡ t) × (views ≡ later) × (me ≡ other) × (height ≡ grown) × (keys ≡ more)
+  pub one : (s t : Parameters) (views later me other height grown : ℕ) (keys more log : List ℕ) → FitsHeader s views me height keys
+      → FitsHeader t later other grown more
+      → HasHeader (header_of s views me height keys) log → IsOwn (header_of t later other grown more) log
+      → (s ≡ t) × (views ≡ later) × (me ≡ other) × (height ≡ grown) × (keys ≡ more)
   pub heights : (height other : Height) → height_number height ≡ height_number other → height ≡ other
 
 fitted : (o : Owner) → IsOwner o → FitsHeader o.setting o.views o.me (height_number o.height) (owner_keys o.height o.publics)
@@ -21,7 +23,8 @@ fitted o is = record { numbers = is.narrow; size = length_keys o.height o.public
 
 pub one_header : OneOwner → (a b : Owner) (log : List ℕ) → IsOwner a → IsOwner b → HasHeader (header_by a) log → IsOwn (header_by b) log → HaveOneHeader a b
 one_header law a b log is_a is_b has own =
-    let same = law.one a.setting b.setting a.views b.views a.me b.me (height_number a.height) (height_number b.height) (owner_keys a.height a.publics) (owner_keys b.height b.publics) log
+    let same = law.one a.setting b.setting a.views b.views a.me b.me (height_number a.height) (height_number b.height)
+    (owner_keys a.height a.publics) (owner_keys b.height b.publics) log
     (fitted a is_a) (fitted b is_b) has own in
     record { setting = same.0; views = same.1; me = same.2; height = law.heights a.height b.height same.3; keys = same.4 }
 
@@ -42,7 +45,8 @@ some_is x y same = cc
 
 pub one_secret : (a b : Owner) → IsOwner a → IsOwner b → HaveOneHeader a b → OpenAlike a b → UsesOneSecret a b → gives_by a ≡ gives_by b
 one_secret a b is_a is_b same alike one =
-    let there : slice_get a.publics a.me ≡ slice_get b.publics b.me = ap (λ (ps : List (List ℕ)). slice_get ps a.me) alike.publics ∙ ap (slice_get b.publics) same.me in
+    let there : slice_get a.publics a.me ≡ slice_get b.publics b.me = ap (λ (ps : List (List ℕ)). slice_get ps a.me) alike.publics
+    ∙ ap (slice_get b.publics) same.me in
     let keys : key_of_secret a.id a.seed a.height ≡ key_of_secret b.id b.seed b.height = some_is _ _ (sym is_a.can.secret ∙ there ∙ is_b.can.secret) in
     let secret = one keys in
     ap (λ (i : List ℕ). any_gives (any_sealer i a.seed a.height a.me)) secret.0 ∙ ap (λ (s : List ℕ). any_gives (any_sealer b.id s a.height a.me)) secret.1

@@ -47,7 +47,8 @@ recorded ready = map (λ p. p.event) (filter (λ p. p.has_record) ready)
 -- The bytes are the header, the records of the events that the lifetime logged, which led to the state `now`, and then a
 -- prefix of the records of these prepared events. The first `durable_size` bytes are durable: at least the header and the
 -- records of the lifetime.
-pub record HasLogged (fits : Check) (gives : Gives) (opening : State) (header : List ℕ) (now : State) (events : List Event) (bytes : List ℕ) (durable_size : ℕ) (lifetime : Lifetime) : Type 0 where
+pub record HasLogged (fits : Check) (gives : Gives) (opening : State) (header : List ℕ) (now : State) (events : List Event) (bytes : List ℕ)
+    (durable_size : ℕ) (lifetime : Lifetime) : Type 0 where
   pub lived : HasLived fits gives opening header false now (header ++ LogOf header (logged lifetime)) durable_size lifetime
   pub tail : List ℕ
   pub follows : bytes ≡ (header ++ LogOf header (logged lifetime)) ++ tail
@@ -58,11 +59,13 @@ pub record HasLogged (fits : Check) (gives : Gives) (opening : State) (header : 
 pub record Continues (fits : Check) (gives : Gives) (old : State) (first : Prepared) (more : List Prepared) (new : State) : Type 0 where
   -- Where the event has a record, and the host has made it durable, the bytes are the log of the lifetime with this turn,
   -- followed by what the host has of the other records.
-  pub lived : first.has_record ≡ true → (opening : State) (header bytes : List ℕ) (durable_size : ℕ) (lifetime : Lifetime) → HasLogged fits gives opening header old (recorded (first ∷ more)) bytes durable_size lifetime
+  pub lived : first.has_record ≡ true → (opening : State) (header bytes : List ℕ) (durable_size : ℕ) (lifetime : Lifetime)
+      → HasLogged fits gives opening header old (recorded (first ∷ more)) bytes durable_size lifetime
       → length (header ++ LogOf header (logged lifetime ++ first.event ∷ [])) ≤ durable_size → durable_size ≤ length bytes
       → HasLogged fits gives opening header new (recorded more) bytes durable_size (answered lifetime first.event (turn_of fits gives old first.event).reported)
   -- Where it has none, the bytes stay the log of the same lifetime, and the turn seals nothing.
-  pub same : first.has_record ≡ false → (opening : State) (header bytes : List ℕ) (durable_size : ℕ) (lifetime : Lifetime) → HasLogged fits gives opening header old (recorded (first ∷ more)) bytes durable_size lifetime
+  pub same : first.has_record ≡ false → (opening : State) (header bytes : List ℕ) (durable_size : ℕ) (lifetime : Lifetime)
+      → HasLogged fits gives opening header old (recorded (first ∷ more)) bytes durable_size lifetime
       → HasLogged fits gives opening header new (recorded more) bytes durable_size lifetime
   pub unsealed : first.has_record ≡ false → (turn_of fits gives old first.event).reported.sealed ≡ []
 

@@ -44,7 +44,8 @@ pub record HasOpened (fits : Check) (gives : Gives) (opening : State) (header lo
 
 -- the running digest after the whole records of a log with this header
 abbrev pub IsDigestOf : List ℕ → List ℕ → List ℕ → Type 0
-IsDigestOf header log digest = (events : List Event) (end : ℕ) → IsWholePrefix (header_digest header) (records_in log) events end → digest ≡ log_digest header events
+IsDigestOf header log digest = (events : List Event) (end : ℕ) → IsWholePrefix (header_digest header) (records_in log) events end
+    → digest ≡ log_digest header events
 
 -- the public key of a secret, whichever replica it is of
 abbrev pub key_of_secret : List ℕ → List ℕ → Height → List ℕ
@@ -93,7 +94,9 @@ IsCause Number s views me id seed height publics log = s.n ≤ me
 IsCause Views s views me id seed height publics log = (me < s.n) × (capacity_of height < 5 * views)
 IsCause Count s views me id seed height publics log = (me < s.n) × (5 * views ≤ capacity_of height) × (length publics ≢ s.n)
 IsCause Secret s views me id seed height publics log = HasPlace s.n views me height publics × (slice_get publics me ≢ Some (key_of_secret id seed height))
-IsCause NoHeader s views me id seed height publics log = CanOpen s.n views me id seed height publics × (¬ IsOwn (own_header s views me height publics) log) × (¬ HasOwner log)
-IsCause OtherLog s views me id seed height publics log = CanOpen s.n views me id seed height publics × (¬ IsOwn (own_header s views me height publics) log) × HasOwner log
+IsCause NoHeader s views me id seed height publics log =
+    CanOpen s.n views me id seed height publics × (¬ IsOwn (own_header s views me height publics) log) × (¬ HasOwner log)
+IsCause OtherLog s views me id seed height publics log =
+    CanOpen s.n views me id seed height publics × (¬ IsOwn (own_header s views me height publics) log) × HasOwner log
 IsCause (Corrupt at) s views me id seed height publics log = CanOpen s.n views me id seed height publics × IsBadIn (own_header s views me height publics) log at
 IsCause NoMemory s views me id seed height publics log = HasPlace s.n views me height publics

@@ -80,7 +80,8 @@ impl Replica {
 
     /// What the turn on an event answers, where it changes nothing.
     fn foreseen(&self, prepared: &Prepared) -> Result<Option<Turned>, ActFault>
-        ensures idle { IfOk result (λ t. IfSome t (λ reported. outcome_of self.now prepared.now.event ≡ record { reported = reported; state = self.now.node.state })) }
+        ensures idle { IfOk result
+            (λ t. IfSome t (λ reported. outcome_of self.now prepared.now.event ≡ record { reported = reported; state = self.now.node.state })) }
         ensures unsealed { IfOk result (λ t. IfSome t (λ reported. reported.sealed ≡ [])) }
         ensures changes { IfOk result (λ t. IfNone t (Changes self.now.node.state (outcome_of self.now prepared.now.event))) }
         ensures running { OnOk result (self.now.node.halted ≡ false) }

@@ -20,31 +20,43 @@ use durable_node::logs_say_whose_they_are;
 /// `acted` of [`crate::Replica::act`] says what a turn does to it.
 pub fn hosts_keep_logs()
     // A new log, before its header is durable: a crash leaves a log that is opened as new.
-    ensures unheaded { (header bytes new : List ℕ) (durable_size : ℕ) → length header ≡ 76 → IsPrefixOf bytes header → Stays durable_size bytes new → IsNewLog header new }
+    ensures unheaded { (header bytes new : List ℕ) (durable_size : ℕ) → length header ≡ 76 → IsPrefixOf bytes header
+        → Stays durable_size bytes new → IsNewLog header new }
     // One event more is prepared.
-    ensures prepared { (fits : Check) (gives : Gives) (opening : State) (header : List ℕ) (now : State) (ready : List Prepared) (bytes : List ℕ) (durable_size : ℕ) (lifetime : Lifetime) (next : Prepared)
-        → HasLogged fits gives opening header now (recorded ready) bytes durable_size lifetime → (next.has_record ≡ true → CanBeKept next.event) → HasLogged fits gives opening header now (recorded (ready ++ next ∷ [])) bytes durable_size lifetime }
+    ensures prepared { (fits : Check) (gives : Gives) (opening : State) (header : List ℕ) (now : State) (ready : List Prepared)
+        (bytes : List ℕ) (durable_size : ℕ) (lifetime : Lifetime) (next : Prepared)
+        → HasLogged fits gives opening header now (recorded ready) bytes durable_size lifetime
+        → (next.has_record ≡ true → CanBeKept next.event)
+        → HasLogged fits gives opening header now (recorded (ready ++ next ∷ [])) bytes durable_size lifetime }
     // An event without a record is taken out of the prepared ones, and no turn is made.
-    ensures dropped { (fits : Check) (gives : Gives) (opening : State) (header : List ℕ) (now : State) (first : Prepared) (more : List Prepared) (bytes : List ℕ) (durable_size : ℕ) (lifetime : Lifetime)
-        → HasLogged fits gives opening header now (recorded (first ∷ more)) bytes durable_size lifetime → first.has_record ≡ false → HasLogged fits gives opening header now (recorded more) bytes durable_size lifetime }
+    ensures dropped { (fits : Check) (gives : Gives) (opening : State) (header : List ℕ) (now : State) (first : Prepared)
+        (more : List Prepared) (bytes : List ℕ) (durable_size : ℕ) (lifetime : Lifetime)
+        → HasLogged fits gives opening header now (recorded (first ∷ more)) bytes durable_size lifetime → first.has_record ≡ false
+        → HasLogged fits gives opening header now (recorded more) bytes durable_size lifetime }
     // Some more of the records is appended, and more bytes are durable.
-    ensures appended { (fits : Check) (gives : Gives) (opening : State) (header : List ℕ) (now : State) (events : List Event) (bytes more : List ℕ) (durable_size more_durable : ℕ) (lifetime : Lifetime)
-        → HasLogged fits gives opening header now events bytes durable_size lifetime → IsPrefixOf bytes more → IsPrefixOf more (header ++ LogOf header (logged lifetime ++ events)) → durable_size ≤ more_durable
+    ensures appended { (fits : Check) (gives : Gives) (opening : State) (header : List ℕ) (now : State) (events : List Event)
+        (bytes more : List ℕ) (durable_size more_durable : ℕ) (lifetime : Lifetime)
+        → HasLogged fits gives opening header now events bytes durable_size lifetime → IsPrefixOf bytes more
+        → IsPrefixOf more (header ++ LogOf header (logged lifetime ++ events)) → durable_size ≤ more_durable
         → HasLogged fits gives opening header now events more more_durable lifetime }
     // The host crashes, and a prefix of the bytes is left, with all durable ones. It has the header.
-    ensures headed { (fits : Check) (gives : Gives) (opening : State) (header : List ℕ) (now : State) (events : List Event) (bytes new : List ℕ) (durable_size : ℕ) (lifetime : Lifetime)
+    ensures headed { (fits : Check) (gives : Gives) (opening : State) (header : List ℕ) (now : State) (events : List Event)
+        (bytes new : List ℕ) (durable_size : ℕ) (lifetime : Lifetime)
         → HasLogged fits gives opening header now events bytes durable_size lifetime → Stays durable_size bytes new → HasHeader header new }
     // The whole records that are left are those of the lifetime, followed by those of the first of the events that are
     // prepared with a record.
-    ensures crashed { (fits : Check) (gives : Gives) (opening : State) (header : List ℕ) (now : State) (ready : List Event) (bytes new : List ℕ) (durable_size : ℕ) (lifetime : Lifetime)
-        → HasLogged fits gives opening header now ready bytes durable_size lifetime → Stays durable_size bytes new → (events : List Event) (end : ℕ) → IsWholePrefix (header_digest header) (records_in new) events end
+    ensures crashed { (fits : Check) (gives : Gives) (opening : State) (header : List ℕ) (now : State) (ready : List Event)
+        (bytes new : List ℕ) (durable_size : ℕ) (lifetime : Lifetime)
+        → HasLogged fits gives opening header now ready bytes durable_size lifetime → Stays durable_size bytes new
+        → (events : List Event) (end : ℕ) → IsWholePrefix (header_digest header) (records_in new) events end
         → LeavesPrefix lifetime ready events }
     // After a crash the log may hold several prepared events on which the replica never acted, where `IsLeft` allows one for
     // each lifetime. The log is the same as if the replica had crashed and been reopened once for each of these events. So
     // the laws on consecutive lifetimes (`FollowOn`) apply.
     ensures follow { (lifetime next : Lifetime) (events : List Event) → lifetime.tried ≡ None → next.found ≡ logged lifetime ++ events
         → FollowOn (with_first lifetime events) (then_next (logged lifetime) events next) }
-    ensures lived { (fits : Check) (gives : Gives) (opening : State) (lifetime next : Lifetime) (events : List Event) → IsLived fits gives opening lifetime → IsLived fits gives opening next
+    ensures lived { (fits : Check) (gives : Gives) (opening : State) (lifetime next : Lifetime) (events : List Event)
+        → IsLived fits gives opening lifetime → IsLived fits gives opening next
         → AllByRecursion (IsLived fits gives opening) (with_first lifetime events ∷ then_next (logged lifetime) events next) }
 {}
 
@@ -52,10 +64,12 @@ pub fn hosts_keep_logs()
 pub fn records_continue_logs()
     // At the opening nothing is prepared, and the running digest is that of the log.
     ensures opened { (header : List ℕ) (events : List Event) → ContinuesLog header events [] (log_digest header events) }
-    ensures prepared { (header : List ℕ) (events : List Event) (old new : Seat) (event : Event) → ContinuesLog header events old.ready old.digest → HasPrepared event old new
+    ensures prepared { (header : List ℕ) (events : List Event) (old new : Seat) (event : Event)
+        → ContinuesLog header events old.ready old.digest → HasPrepared event old new
         → ContinuesLog header events new.ready new.digest }
     // The event that was prepared first is acted on, or taken out, and its record is in the log.
-    ensures taken { (header : List ℕ) (events : List Event) (first : Prepared) (more : List Prepared) (digest : List ℕ) → ContinuesLog header events (first ∷ more) digest
+    ensures taken { (header : List ℕ) (events : List Event) (first : Prepared) (more : List Prepared) (digest : List ℕ)
+        → ContinuesLog header events (first ∷ more) digest
         → ContinuesLog header (events ++ recorded (first ∷ [])) more digest }
     // Their records, one after another, are those that follow the log.
     ensures records { (header : List ℕ) (events : List Event) (ready : List Prepared) (digest : List ℕ) → ContinuesLog header events ready digest

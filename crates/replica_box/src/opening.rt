@@ -66,7 +66,8 @@ pub(crate) fn open_node(
 ) -> Result<Opened, OpenFault>
     // The secret is that of the replica, and the state, the running digest and the header are those that the log gives.
     ensures can { OnOk result (CanOpen role.now.setting.n role.now.views role.now.me id.now seed.now role.now.height publics.now) }
-    ensures opened { IfOk result (λ o. HasOpened (any_publics_fit role.now.height publics.now) (any_gives (any_sealer id.now seed.now role.now.height role.now.me))
+    ensures opened { IfOk result
+        (λ o. HasOpened (any_publics_fit role.now.height publics.now) (any_gives (any_sealer id.now seed.now role.now.height role.now.me))
         (opening_state role.now.setting role.now.views role.now.me (capacity_of role.now.height)) o.header.items log.now o.used o.node.state) }
     ensures digest { IfOk result (λ o. IsDigestOf o.header.items log.now o.digest) }
     ensures header { IfOk result (λ o. o.header.items ≡ own_header role.now.setting role.now.views role.now.me role.now.height publics.now) }
@@ -137,7 +138,8 @@ fn own_sealer(
     ensures fresh { IfOk result (λ sealer. any_made sealer ≡ 0) }
     ensures room { IfOk result (λ sealer. any_capacity sealer ≡ capacity_of role.now.height) }
     ensures can { OnOk result (CanOpen role.now.setting.n role.now.views role.now.me id.now seed.now role.now.height publics.now) }
-    ensures cause { IfErr result (λ fault. (log : List ℕ) → IsCause fault role.now.setting role.now.views role.now.me id.now seed.now role.now.height publics.now log) }
+    ensures cause { IfErr result
+        (λ fault. (log : List ℕ) → IsCause fault role.now.setting role.now.views role.now.me id.now seed.now role.now.height publics.now log) }
 {
     if role.setting.n() <= role.me {
         return Err(OpenFault::Number);
@@ -163,7 +165,8 @@ fn refuse_secret(
 ) -> Result<(), OpenFault>
     requires { sealer.now ≡ any_sealer id.now seed.now role.now.height role.now.me }
     ensures own { OnOk result (slice_get publics.now role.now.me ≡ Some (key_of_secret id.now seed.now role.now.height)) }
-    ensures cause { IfErr result (λ fault. (fault ≡ OpenFault.Secret) × (slice_get publics.now role.now.me ≢ Some (key_of_secret id.now seed.now role.now.height))) }
+    ensures cause { IfErr result
+        (λ fault. (fault ≡ OpenFault.Secret) × (slice_get publics.now role.now.me ≢ Some (key_of_secret id.now seed.now role.now.height))) }
 {
     if is_at(publics, role.me, &public_of(sealer)) {
         Ok(())

@@ -102,7 +102,8 @@ impl Replica {
 
     /// The record of a prepared event, or no bytes where it has none. Event 0 is the one that the replica acts on next.
     pub fn record(&self, at: usize) -> Option<&[u8]>
-        ensures { MatchOption result (slice_get self.now.ready at ≡ None) (λ bytes. IsSomeAnd (slice_get self.now.ready at) (λ prepared. bytes.now ≡ record_for prepared)) }
+        ensures { MatchOption result (slice_get self.now.ready at ≡ None)
+            (λ bytes. IsSomeAnd (slice_get self.now.ready at) (λ prepared. bytes.now ≡ record_for prepared)) }
     {
         match self.ready.get(at) {
             Some(prepared) => Some(prepared.record()),

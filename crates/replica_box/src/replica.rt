@@ -85,7 +85,8 @@ impl Replica {
     ) -> Result<(Replica, usize), OpenFault>
         // The secret is that of the replica, and the state, the running digest and the header are those that the log gives.
         ensures can { OnOk result (CanOpen role.now.setting.n role.now.views role.now.me id.now seed.now role.now.height publics.now) }
-        ensures opened { IfOk result (λ o. HasOpened (any_publics_fit role.now.height publics.now) (any_gives (any_sealer id.now seed.now role.now.height role.now.me))
+        ensures opened { IfOk result
+            (λ o. HasOpened (any_publics_fit role.now.height publics.now) (any_gives (any_sealer id.now seed.now role.now.height role.now.me))
             (opening_state role.now.setting role.now.views role.now.me (capacity_of role.now.height)) o.0.header log.now o.1 o.0.node.state) }
         ensures digest { IfOk result (λ o. IsDigestOf o.0.header log.now o.0.digest) }
         ensures header { IfOk result (λ o. o.0.header ≡ own_header role.now.setting role.now.views role.now.me role.now.height publics.now) }

@@ -38,7 +38,8 @@ both_equal : (t x y : Tx) → tx_eq x t ≡ true → tx_eq y t ≡ true → x �
 both_equal t x y a b other = other ((tx_eq_decides x t).0 a ∙ sym ((tx_eq_decides y t).0 b))
 
 -- a client's transaction is none of the others
-no_other : (clients : List Client) (txs : List Tx) → All (λ x. is_client clients x.client ≡ false) txs → (t : Tx) → is_client clients t.client ≡ true → total (given t) txs ≡ 0
+no_other : (clients : List Client) (txs : List Tx) → All (λ x. is_client clients x.client ≡ false) txs → (t : Tx)
+    → is_client clients t.client ≡ true → total (given t) txs ≡ 0
 no_other clients txs others t is = total_none (given t) txs (All-weaker (λ (x : Tx). is_client clients x.client ≡ false) (λ x. given t x ≡ 0) apart txs others)
   where
     apart : (x : Tx) → is_client clients x.client ≡ false → given t x ≡ 0
@@ -51,7 +52,9 @@ module _ (plan : Plan) (rules : KeepsRules plan) (apart : KeepsApart plan) (r : 
   -- the fields, one by one
   pub few : length (txs_of (timed_for plan r)) ≤ 65536
   few =
-      let all : total (λ t. 1) (txs_of (timed_for plan r)) ≡ total (shares (λ t. 1) (range_with_len 1 (rounds_of plan.clients))) plan.clients + total (λ t. 1) (received r plan.arrivals) = feed_total (λ t. 1) plan r in
+      let all : total (λ t. 1) (txs_of (timed_for plan r))
+      ≡ total (shares (λ t. 1) (range_with_len 1 (rounds_of plan.clients))) plan.clients + total (λ t. 1) (received r plan.arrivals) =
+      feed_total (λ t. 1) plan r in
       omega (
         arith,
         all,
@@ -64,17 +67,26 @@ module _ (plan : Plan) (rules : KeepsRules plan) (apart : KeepsApart plan) (r : 
 
   pub no_misfit : total misfit (txs_of (timed_for plan r)) ≡ 0
   no_misfit =
-      let others : total misfit (received r plan.arrivals) ≡ 0 = total_none misfit (received r plan.arrivals) (All-weaker FitsTx (λ t. misfit t ≡ 0) fits_none (received r plan.arrivals) (apart.arrivals r).fits) in
+      let others : total misfit (received r plan.arrivals) ≡ 0 =
+      total_none misfit (received r plan.arrivals)
+      (All-weaker FitsTx (λ t. misfit t ≡ 0) fits_none (received r plan.arrivals) (apart.arrivals r).fits) in
       omega (arith, feed_total misfit plan r, share_fits (rounds_of plan.clients) plan.clients apart.clients_small rules.small_counts, others)
 
   pub once : (t : Tx) → total (given t) (txs_of (timed_for plan r)) ≤ 1
   once t = elim (cases_Bool (is_client plan.clients t.client)) [
     | inl so ↦
-        omega (arith, feed_total (given t) plan r, clients_once t (rounds_of plan.clients) plan.clients apart.clients_differ, no_other plan.clients (received r plan.arrivals) (apart.arrivals r).others t so)
+        omega (
+          arith,
+          feed_total (given t) plan r,
+          clients_once t (rounds_of plan.clients) plan.clients apart.clients_differ,
+          no_other plan.clients (received r plan.arrivals) (apart.arrivals r).others t so,
+        )
     | inr not_so ↦
-        let one : total (given t) (received r plan.arrivals) ≤ 1 = once_passes (λ x. tx_eq x t) (λ x y. x ≢ y) (both_equal t) (received r plan.arrivals) (apart.arrivals r).distinct in
+        let one : total (given t) (received r plan.arrivals) ≤ 1 =
+        once_passes (λ x. tx_eq x t) (λ x y. x ≢ y) (both_equal t) (received r plan.arrivals) (apart.arrivals r).distinct in
         omega (arith, feed_total (given t) plan r, no_client t (rounds_of plan.clients) plan.clients not_so, one)
   ]
 
   pub is_arrival_list : IsArrivalList (txs_of (timed_for plan r))
-  is_arrival_list = record { distinct = distinct_from_counts tx_eq equal (txs_of (timed_for plan r)) once; each = all_fit (txs_of (timed_for plan r)) no_misfit; few = few }
+  is_arrival_list =
+      record { distinct = distinct_from_counts tx_eq equal (txs_of (timed_for plan r)) once; each = all_fit (txs_of (timed_for plan r)) no_misfit; few = few }

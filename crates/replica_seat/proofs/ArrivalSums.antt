@@ -34,7 +34,8 @@ module _ (f : Tx → ℕ) where
   times : (arrivals : List Arrival) → total (λ (t : TimedTx). f t.tx) (timed arrivals) ≡ total (λ (a : Arrival). total f a.txs) arrivals
   times arrivals =
       total-flat_map (λ (t : TimedTx). f t.tx) (λ (a : Arrival). at_turn a.turn a.txs) arrivals
-      ∙ total_same (λ (a : Arrival). total (λ (t : TimedTx). f t.tx) (at_turn a.turn a.txs)) (λ (a : Arrival). total f a.txs) (λ a. at_turns a.turn a.txs) arrivals
+      ∙ total_same (λ (a : Arrival). total (λ (t : TimedTx). f t.tx) (at_turn a.turn a.txs)) (λ (a : Arrival). total f a.txs)
+      (λ a. at_turns a.turn a.txs) arrivals
 
   chosen : (b : Bool) (txs : List Tx) → cond b (total f txs) 0 ≡ total f (cond b txs [])
   chosen true txs = refl
@@ -46,7 +47,8 @@ module _ (f : Tx → ℕ) where
       times (arrivals_at arrivals r)
       ∙ sorted (λ (a : Arrival). total f a.txs) (filter (λ a. a.replica == r) arrivals)
       ∙ total-filter (λ (a : Arrival). total f a.txs) (λ a. a.replica == r) arrivals
-      ∙ total_same (λ (a : Arrival). cond (a.replica == r) (total f a.txs) 0) (λ (a : Arrival). total f (cond (a.replica == r) a.txs [])) (λ a. chosen (a.replica == r) a.txs) arrivals
+      ∙ total_same (λ (a : Arrival). cond (a.replica == r) (total f a.txs) 0) (λ (a : Arrival). total f (cond (a.replica == r) a.txs []))
+      (λ a. chosen (a.replica == r) a.txs) arrivals
       ∙ sym (total-flat_map f (λ (a : Arrival). cond (a.replica == r) a.txs []) arrivals)
 
   -- ---- the clients, round by round
@@ -67,13 +69,15 @@ module _ (f : Tx → ℕ) where
   unfolding clients_for
   clients_total clients r =
       total-flat_map f (round_of (around r clients)) (range_with_len 1 (rounds_of clients))
-      ∙ total_same (λ k. total f (round_of (around r clients) k)) (λ k. total (share k) (around r clients)) (round_total (around r clients)) (range_with_len 1 (rounds_of clients))
+      ∙ total_same (λ k. total f (round_of (around r clients) k)) (λ k. total (share k) (around r clients)) (round_total (around r clients))
+      (range_with_len 1 (rounds_of clients))
       ∙ total_swap share (range_with_len 1 (rounds_of clients)) (around r clients)
       ∙ total-around (shares (range_with_len 1 (rounds_of clients))) r clients
 
   -- ---- both
 
-  pub feed_total : (plan : Plan) (r : ℕ) → total f (txs_of (timed_for plan r)) ≡ total (shares (range_with_len 1 (rounds_of plan.clients))) plan.clients + total f (received r plan.arrivals)
+  pub feed_total : (plan : Plan) (r : ℕ) → total f (txs_of (timed_for plan r))
+      ≡ total (shares (range_with_len 1 (rounds_of plan.clients))) plan.clients + total f (received r plan.arrivals)
   feed_total plan r =
       total-map f (λ (t : TimedTx). t.tx) (timed_for plan r)
       ∙ total-append (λ (t : TimedTx). f t.tx) (at_turn 0 (clients_for plan.clients r)) (arrivals_for plan.arrivals r)

@@ -47,7 +47,8 @@ put_in arrivals place a there (p ∷ ps) all =
           rw (less a.turn place p.0 p.1 below, here, there, ahead) refl
     ]
 
-put_in_place : (arrivals : List Arrival) (place : ℕ) (a : Arrival) (places : List (ℕ × ℕ)) → slice_get arrivals place ≡ Some a → All (IsPlaced arrivals place) places
+put_in_place : (arrivals : List Arrival) (place : ℕ) (a : Arrival) (places : List (ℕ × ℕ)) → slice_get arrivals place ≡ Some a
+    → All (IsPlaced arrivals place) places
     → at_places arrivals (insert_key place_cmp places (a.turn, place)) ≡ put_by_turn (at_places arrivals places) a
 put_in_place arrivals place a places there all = put_in arrivals place a there places (recursion_from_All _ places all)
 
@@ -57,7 +58,8 @@ later arrivals place p is = record { arrival = is.arrival; there = is.there; tur
 placed_later : (arrivals : List Arrival) (place : ℕ) (places : List (ℕ × ℕ)) → All (IsPlaced arrivals place) places → All (IsPlaced arrivals (place + 1)) places
 placed_later arrivals place places all = All-weaker _ _ (later arrivals place) places all
 
-placed_more : (arrivals : List Arrival) (place : ℕ) (a : Arrival) (places : List (ℕ × ℕ)) → slice_get arrivals place ≡ Some a → All (IsPlaced arrivals place) places
+placed_more : (arrivals : List Arrival) (place : ℕ) (a : Arrival) (places : List (ℕ × ℕ)) → slice_get arrivals place ≡ Some a
+    → All (IsPlaced arrivals place) places
     → All (IsPlaced arrivals (place + 1)) (insert_key place_cmp places (a.turn, place))
 placed_more arrivals place a places there all =
     All-insert_key place_cmp (a.turn, place) (IsPlaced arrivals (place + 1)) places (placed_later arrivals place places all)
@@ -98,7 +100,8 @@ taken_more arrivals place a here =
     let e : place + 1 ≡ suc place = omega arith in
     ap (λ k. take k arrivals) e ∙ take-suc arrivals place a below ∙ ap (λ x. take place arrivals ++ x ∷ []) (get_or_from_slice_get arrivals place a a here)
 
-pub placed_with : (arrivals : List Arrival) (places : List (ℕ × ℕ)) (a : Arrival) (replica place : ℕ) → slice_get arrivals place ≡ Some a → All (IsPlaced arrivals place) places
+pub placed_with : (arrivals : List Arrival) (places : List (ℕ × ℕ)) (a : Arrival) (replica place : ℕ) → slice_get arrivals place ≡ Some a
+    → All (IsPlaced arrivals place) places
     → All (IsPlaced arrivals (place + 1)) (with_place places a replica place)
 placed_with arrivals places a replica place here all =
     elim (cases_Bool (a.replica == replica)) [
@@ -106,13 +109,15 @@ placed_with arrivals places a replica place here all =
       | inr other ↦ rw other (placed_later arrivals place places all)
     ]
 
-pub same_with : (arrivals : List Arrival) (places : List (ℕ × ℕ)) (a : Arrival) (replica place : ℕ) → slice_get arrivals place ≡ Some a → All (IsPlaced arrivals place) places
+pub same_with : (arrivals : List Arrival) (places : List (ℕ × ℕ)) (a : Arrival) (replica place : ℕ) → slice_get arrivals place ≡ Some a
+    → All (IsPlaced arrivals place) places
     → at_places arrivals places ≡ arrivals_at (take place arrivals) replica
     → at_places arrivals (with_place places a replica place) ≡ arrivals_at (take (place + 1) arrivals) replica
 same_with arrivals places a replica place here all same =
     let more = taken_more arrivals place a here in
     elim (cases_Bool (a.replica == replica)) [
-      | inl mine ↦ rw (mine, more) (put_in_place arrivals place a places here all ∙ ap (λ xs. put_by_turn xs a) same ∙ sym (arrivals_more (take place arrivals) a replica mine))
+      | inl mine ↦ rw (mine, more) (put_in_place arrivals place a places here all ∙ ap (λ xs. put_by_turn xs a) same
+          ∙ sym (arrivals_more (take place arrivals) a replica mine))
       | inr other ↦ rw (other, more) (same ∙ sym (arrivals_same (take place arrivals) a replica other))
     ]
 

@@ -35,7 +35,8 @@ round_both from before r =
 
 -- a round more is one of these clients and then of those
 pub rounds_more : (from before : List Client) (r : ℕ) (list : List TimedTx)
-    → ((list ++ at_turn 0 (flat_map (round_of (from ++ before)) (range_with_len 1 r))) ++ at_turn 0 (round_of from (r + 1))) ++ at_turn 0 (round_of before (r + 1))
+    → ((list ++ at_turn 0 (flat_map (round_of (from ++ before)) (range_with_len 1 r))) ++ at_turn 0 (round_of from (r + 1)))
+    ++ at_turn 0 (round_of before (r + 1))
     ≡ list ++ at_turn 0 (flat_map (round_of (from ++ before)) (range_with_len 1 (r + 1)))
 rounds_more from before r list =
     let all = flat_map (round_of (from ++ before)) (range_with_len 1 r) in

@@ -13,7 +13,8 @@ use Rattle.replica_seat.specs.Seats.{Replica}
 use Rattle.replica_seat.specs.Acting.{Acted, Way, after_event, enveloped, noted, sent, sent_all, reported_after, way}
 use Rattle.replica_seat.specs.declared.seat.Envelope.{Envelope}
 
-pub sent_over_one : (from : ℕ) (links : List Link) (queue : List Envelope) (send : Outgoing) (link : Link) → send.to < length links → link ≡ get_or links send.to link
+pub sent_over_one : (from : ℕ) (links : List Link) (queue : List Envelope) (send : Outgoing) (link : Link) → send.to < length links
+    → link ≡ get_or links send.to link
     → sent from (way links queue) send ≡ way (slice_set links send.to (passed link send.bytes)) (queue ++ enveloped from send.to (given_by link send.bytes))
 sent_over_one from links queue send link below is = rw (slice_get_read links (length links) send.to link refl below is) refl
 
@@ -22,7 +23,8 @@ pub sent_over_none : (from : ℕ) (links : List Link) (queue : List Envelope) (s
 sent_over_none from links queue send past = rw (slice_get_past links send.to past) refl
 
 -- the turn, its deeds, its sends, and its entry
-pub reported_event : (fits : Check) (plan : Plan) (at : ℕ) (r : Replica) (queue : List Envelope) (event : Event) (o : Outcome) (mid : Replica) (a : Acted) (w : Way)
+pub reported_event : (fits : Check) (plan : Plan) (at : ℕ) (r : Replica) (queue : List Envelope) (event : Event) (o : Outcome)
+    (mid : Replica) (a : Acted) (w : Way)
     → turn_of fits r.gives r.state event ≡ o → mid ≡ record r { state = o.state } → reported_after plan at mid o ≡ a
     → sent_all at (way a.replica.links queue) a.reported.sends ≡ w
     → after_event fits plan at r queue event ≡ record { replica = noted a.replica event a.reported w.links; queue = w.queue }

@@ -30,21 +30,29 @@ share_counts n clients = total-le (shares (λ t. 1) (range_with_len 1 n)) (λ c.
   where
     each : (clients : List Client) → All (λ c. shares (λ t. 1) (range_with_len 1 n) c ≤ c.count) clients
     each [] = All-nil (λ (c : Client). shares (λ t. 1) (range_with_len 1 n) c ≤ c.count)
-    each (c ∷ clients) = All-cons (λ (c : Client). shares (λ t. 1) (range_with_len 1 n) c ≤ c.count) c clients (omega (arith, in_rounds c.count 1 n)) (each clients)
+    each (c ∷ clients) = All-cons (λ (c : Client). shares (λ t. 1) (range_with_len 1 n) c ≤ c.count) c clients
+        (omega (arith, in_rounds c.count 1 n)) (each clients)
 
 -- ---- each within its widths
 
 pub fits_none : (t : Tx) → FitsTx t → misfit t ≡ 0
 fits_none t fits = rw (lt-ltb t.client (2 ^ 32) fits.client, lt-ltb t.number (2 ^ 32) fits.number, lt-ltb t.payload (2 ^ 64) fits.payload) refl
 
-fit_in_rounds : (id count a n : ℕ) → id < 2 ^ 32 → count ≤ 65536 → total (λ k. cond (nat_le k count) (misfit (record { client = id; number = k; payload = 0 })) 0) (range_with_len a n) ≡ 0
+fit_in_rounds : (id count a n : ℕ) → id < 2 ^ 32 → count ≤ 65536
+    → total (λ k. cond (nat_le k count) (misfit (record { client = id; number = k; payload = 0 })) 0) (range_with_len a n) ≡ 0
 fit_in_rounds id count a zero small few = refl
 fit_in_rounds id count a (suc n) small few = elim (cases_Bool (nat_le a count)) [
-  | inl so ↦ rw so (omega (arith, fits_none (record { client = id; number = a; payload = 0 }) (record { client = small; number = omega (arith, leb-true a count so, few); payload = omega arith }), fit_in_rounds id count (a + 1) n small few))
+  | inl so ↦ rw so (omega (
+    arith,
+    fits_none (record { client = id; number = a; payload = 0 })
+        (record { client = small; number = omega (arith, leb-true a count so, few); payload = omega arith }),
+    fit_in_rounds id count (a + 1) n small few,
+  ))
   | inr not_so ↦ rw not_so (omega (arith, fit_in_rounds id count (a + 1) n small few))
 ]
 
-pub share_fits : (n : ℕ) (clients : List Client) → All (λ c. c.id < 2 ^ 32) clients → All (λ c. c.count ≤ 65536) clients → total (shares misfit (range_with_len 1 n)) clients ≡ 0
+pub share_fits : (n : ℕ) (clients : List Client) → All (λ c. c.id < 2 ^ 32) clients → All (λ c. c.count ≤ 65536) clients
+    → total (shares misfit (range_with_len 1 n)) clients ≡ 0
 share_fits n [] small few = refl
 share_fits n (c ∷ clients) small few =
     omega (
@@ -99,7 +107,8 @@ none_of_client t c a (suc n) other =
 
 once_of_client : (t : Tx) (c : Client) (n : ℕ) → shares (given t) (range_with_len 1 n) c ≤ point (c.id == t.client)
 once_of_client t c n = elim (cases_Bool (c.id == t.client)) [
-  | inl so ↦ subst (λ (same : Bool). shares (given t) (range_with_len 1 n) c ≤ point same) (sym so) (omega (arith, one_of_client t c 1 n, once_in_range t.number 1 n))
+  | inl so ↦ subst (λ (same : Bool). shares (given t) (range_with_len 1 n) c ≤ point same) (sym so)
+      (omega (arith, one_of_client t c 1 n, once_in_range t.number 1 n))
   | inr not_so ↦ subst (λ (same : Bool). shares (given t) (range_with_len 1 n) c ≤ point same) (sym not_so) (omega (arith, none_of_client t c 1 n not_so))
 ]
 
@@ -109,7 +118,9 @@ share_once t n (c ∷ clients) = omega (arith, once_of_client t c n, share_once 
 
 pub clients_once : (t : Tx) (n : ℕ) (clients : List Client) → AllPairs (λ c d. c.id ≢ d.id) clients → total (shares (given t) (range_with_len 1 n)) clients ≤ 1
 clients_once t n clients differ =
-    let one : passing (λ c. c.id == t.client) clients ≤ 1 = once_passes (λ c. c.id == t.client) (λ c d. c.id ≢ d.id) (λ c d a b other. other (eqb-true c.id t.client a ∙ sym (eqb-true d.id t.client b))) clients differ in
+    let one : passing (λ c. c.id == t.client) clients ≤ 1 =
+    once_passes (λ c. c.id == t.client) (λ c d. c.id ≢ d.id)
+    (λ c d a b other. other (eqb-true c.id t.client a ∙ sym (eqb-true d.id t.client b))) clients differ in
     omega (arith, share_once t n clients, one)
 
 pub no_client : (t : Tx) (n : ℕ) (clients : List Client) → is_client clients t.client ≡ false → total (shares (given t) (range_with_len 1 n)) clients ≡ 0

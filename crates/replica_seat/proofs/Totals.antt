@@ -72,7 +72,8 @@ total_swap f (x ∷ xs) ys = ap (λ (n : ℕ). total (f x) ys + n) (total_swap f
 pub total-around : {X : Type 0} (f : X → ℕ) (first : ℕ) (xs : List X) → total f (around first xs) ≡ total f xs
 total-around f first xs =
     let at : ℕ = place_among first (length xs) in
-    let parts : total f (take at xs) + total f (drop at xs) ≡ total f xs = sym (total-append f (take at xs) (drop at xs)) ∙ ap (total f) (take-append-drop at xs) in
+    let parts : total f (take at xs) + total f (drop at xs) ≡ total f xs =
+    sym (total-append f (take at xs) (drop at xs)) ∙ ap (total f) (take-append-drop at xs) in
     omega (arith, total-append f (drop at xs) (take at xs), parts)
 
 -- what none passes
@@ -93,7 +94,8 @@ all_fail p (x ∷ xs) none = elim (cases_Bool (p x)) [
 ]
 
 -- where any two that pass would be at odds, one passes at most
-pub once_passes : {X : Type 0} (p : X → Bool) (R : X → X → Type 0) → ((x y : X) → p x ≡ true → p y ≡ true → R x y → ⊥) → (xs : List X) → AllPairs R xs → passing p xs ≤ 1
+pub once_passes : {X : Type 0} (p : X → Bool) (R : X → X → Type 0) → ((x y : X) → p x ≡ true → p y ≡ true → R x y → ⊥) → (xs : List X)
+    → AllPairs R xs → passing p xs ≤ 1
 once_passes p R odds [] pairs = omega arith
 once_passes p R odds (x ∷ xs) pairs =
     let rest : passing p xs ≤ 1 = once_passes p R odds xs (λ i j d less inside. pairs (suc i) (suc j) d (omega (arith, less)) (omega (arith, inside))) in
@@ -112,11 +114,13 @@ once_passes p R odds (x ∷ xs) pairs =
     ]
 
 -- in a list of distinct items each stands once
-pub distinct_from_counts : {X : Type 0} (same : X → X → Bool) → ((x : X) → same x x ≡ true) → (xs : List X) → ((t : X) → passing (λ x. same x t) xs ≤ 1) → AllPairs (λ x y. x ≢ y) xs
+pub distinct_from_counts : {X : Type 0} (same : X → X → Bool) → ((x : X) → same x x ≡ true) → (xs : List X)
+    → ((t : X) → passing (λ x. same x t) xs ≤ 1) → AllPairs (λ x y. x ≢ y) xs
 distinct_from_counts same itself [] once = λ i j d less inside. absurd (omega arith)
 distinct_from_counts same itself (x ∷ xs) once =
     AllPairs-cons (λ y z. y ≢ z) x xs
-    (All-weaker (λ y. same y x ≡ false) (λ y. x ≢ y) (λ y other is. false≢true (sym other ∙ ap (λ z. same z x) (sym is) ∙ itself x)) xs (all_fail (λ y. same y x) xs none))
+    (All-weaker (λ y. same y x ≡ false) (λ y. x ≢ y) (λ y other is. false≢true (sym other ∙ ap (λ z. same z x) (sym is) ∙ itself x)) xs
+    (all_fail (λ y. same y x) xs none))
     (distinct_from_counts same itself xs (λ t. omega (arith, once t)))
   where
     none : passing (λ y. same y x) xs ≡ 0

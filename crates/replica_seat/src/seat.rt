@@ -97,7 +97,8 @@ impl<S: Sealer> Seat<S> {
         at: u32,
         turned: Turned,
     ) -> Result<Turned, NoMemory>
-        ensures { IfOk result (λ t. reported_after plan.now at (replica_of (meaning S.replica S.gives) self.old) (record { reported = turned; state = self.old.node.state })
+        ensures { IfOk result (λ t. reported_after plan.now at (replica_of (meaning S.replica S.gives) self.old)
+            (record { reported = turned; state = self.old.node.state })
             ≡ record { reported = t; replica = replica_of (meaning S.replica S.gives) self.new }) }
     {
         if plan.faulty.has(at) {
@@ -114,7 +115,8 @@ impl<S: Sealer> Seat<S> {
         plan: &Plan,
         mut turned: Turned,
     ) -> Result<Turned, NoMemory>
-        ensures { IfOk result (λ t. deeds_acted plan.now (replica_of (meaning S.replica S.gives) self.old) (record { reported = turned; state = self.old.node.state })
+        ensures { IfOk result
+            (λ t. deeds_acted plan.now (replica_of (meaning S.replica S.gives) self.old) (record { reported = turned; state = self.old.node.state })
             ≡ record { reported = t; replica = replica_of (meaning S.replica S.gives) self.new }) }
     {
         let sends = turned.take_sends(alloc);

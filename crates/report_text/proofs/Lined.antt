@@ -15,7 +15,8 @@ use Rattle.report_text.specs.OrderPrint.{class_line, tx_line}
 use Rattle.report_text.proofs.Printed.{counted_lines}
 
 -- the parts of a text, written one after the other
-pub printed_lines : (s : Parameters) (lists : List (List Tx)) (pair : Option (Tx × Tx)) (tally : Tally) (graph : Graph) (kept : List Tx) (none counts listed_lines whole : List ℕ)
+pub printed_lines : (s : Parameters) (lists : List (List Tx)) (pair : Option (Tx × Tx)) (tally : Tally) (graph : Graph) (kept : List Tx)
+    (none counts listed_lines whole : List ℕ)
     → tally ≡ tally_of s lists → graph ≡ proposal_of s lists → kept ≡ graph.vertices
     → ((t : Tx) → count_in tally t ≡ listed lists t) → ((t : Tx) → class_in tally t ≡ class_of s lists t)
     → none ≡ [] → counts ≡ none ++ counts_line s
@@ -27,5 +28,6 @@ printed_lines s lists pair tally graph kept none counts listed_lines whole are i
     let given : graph ≡ graph_of s lists graph.vertices = is ∙ ap (λ (g : Graph). graph_of s lists g.vertices) (sym is) in
     third s lists given
     ∙ ap (λ (x : List ℕ). x ++ lined_end s lists (batches_of graph) pair)
-    (second ∙ ap (λ (x : List ℕ). counts ++ x) lines ∙ ap (λ (x : List ℕ). x ++ flat_map (tx_line s lists) (listed_in lists)) (first ∙ ap (λ (x : List ℕ). x ++ counts_line s) begin))
+    (second ∙ ap (λ (x : List ℕ). counts ++ x) lines
+    ∙ ap (λ (x : List ℕ). x ++ flat_map (tx_line s lists) (listed_in lists)) (first ∙ ap (λ (x : List ℕ). x ++ counts_line s) begin))
     ∙ ap (λ (g : Graph). counts_line s ++ flat_map (tx_line s lists) (listed_in lists) ++ lined_end s lists (batches_of g) pair) is

@@ -30,7 +30,8 @@ counted_lines s lists tally kept are all counts classes =
         ∙ ap (λ (n : ℕ). class_line (class_of s lists t) (holds t (kept_by s lists)) t n) (counts t)
 
 -- the parts of a text, written one after the other
-pub printed_text : (s : Parameters) (lists : List (List Tx)) (pair : Option (Tx × Tx)) (tally : Tally) (graph : Graph) (kept : List Tx) (none counts listed_lines whole : List ℕ)
+pub printed_text : (s : Parameters) (lists : List (List Tx)) (pair : Option (Tx × Tx)) (tally : Tally) (graph : Graph) (kept : List Tx)
+    (none counts listed_lines whole : List ℕ)
     → tally ≡ tally_of s lists → graph ≡ proposal_of s lists → kept ≡ graph.vertices
     → ((t : Tx) → count_in tally t ≡ listed lists t) → ((t : Tx) → class_in tally t ≡ class_of s lists t)
     → none ≡ [] → counts ≡ none ++ counts_line s
@@ -38,5 +39,6 @@ pub printed_text : (s : Parameters) (lists : List (List Tx)) (pair : Option (Tx 
     → whole ≡ listed_lines ++ end_text graph pair → whole ≡ proposal_text s lists pair
 printed_text s lists pair tally graph kept none counts listed_lines whole are is all count class begin first second third =
     let lines = counted_lines s lists tally kept are (all ∙ ap (λ (g : Graph). g.vertices) is) count class in
-    third ∙ ap (λ (x : List ℕ). x ++ end_text graph pair) (second ∙ ap (λ (x : List ℕ). counts ++ x) lines ∙ ap (λ (x : List ℕ). x ++ flat_map (tx_line s lists) (listed_in lists)) (first ∙ ap (λ (x : List ℕ). x ++ counts_line s) begin))
+    third ∙ ap (λ (x : List ℕ). x ++ end_text graph pair) (second ∙ ap (λ (x : List ℕ). counts ++ x) lines
+    ∙ ap (λ (x : List ℕ). x ++ flat_map (tx_line s lists) (listed_in lists)) (first ∙ ap (λ (x : List ℕ). x ++ counts_line s) begin))
     ∙ ap (λ (g : Graph). counts_line s ++ flat_map (tx_line s lists) (listed_in lists) ++ end_text g pair) is

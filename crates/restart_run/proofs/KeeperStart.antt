@@ -87,12 +87,14 @@ module _ {K S : Type 0} (g : Ground K S) where
       subst (AreKept g.keeps g.fits g.plan lifetimes keepers) (sym same) (record {
         count = begun.count ∙ sym (length-map kit (fresh_replica g.plan)
             ∙ length-map-range_with_len (λ (x : ℕ). signer x (capacity_of g.plan.height) (g.gives x) 0) 0 g.plan.setting.n);
-        each = λ at k r has_k has_r. subst (IsKeptBy g.keeps g.fits g.plan lifetimes at k) (sym (fresh_at g.plan.setting.n at r has_r)) (begun_one least at k (begun.each at k has_k));
+        each = λ at k r has_k has_r. subst (IsKeptBy g.keeps g.fits g.plan lifetimes at k) (sym (fresh_at g.plan.setting.n at r has_r))
+            (begun_one least at k (begun.each at k has_k));
       })
 
 -- ---- one keeper more
 
-pub begun_more : {K : Type 0} (m : Meant K) (plan : Plan) (least : ℕ → ℕ) (old new : List (Keeping K)) (k : Keeping K) (n : ℕ) → new ≡ old ++ k ∷ [] → length old ≡ n
+pub begun_more : {K : Type 0} (m : Meant K) (plan : Plan) (least : ℕ → ℕ) (old new : List (Keeping K)) (k : Keeping K) (n : ℕ)
+    → new ≡ old ++ k ∷ [] → length old ≡ n
     → IsBegun m plan (least n) n k → ((at : ℕ) (x : Keeping K) → slice_get old at ≡ Some x → IsBegun m plan (least at) at x)
     → (at : ℕ) (x : Keeping K) → slice_get new at ≡ Some x → IsBegun m plan (least at) at x
 begun_more m plan least old new k n is count one each at x has =
@@ -102,7 +104,8 @@ begun_more m plan least old new k n is count one each at x has =
     ]
 
 -- fewer faults may be asked
-pub less_begun : {K : Type 0} (m : Meant K) (plan : Plan) (least base at : ℕ) (k : Keeping K) → least ≤ base → IsBegun m plan base at k → IsBegun m plan least at k
+pub less_begun : {K : Type 0} (m : Meant K) (plan : Plan) (least base at : ℕ) (k : Keeping K) → least ≤ base → IsBegun m plan base at k
+    → IsBegun m plan least at k
 less_begun m plan least base at k fewer begun = record {
   faults = (let a = begun.faults in omega arith);
   on = begun.on;
@@ -125,4 +128,5 @@ later_faults {K} m least from keepers left is had = subst (HadFaults m least (fr
   where
     following : (ks : List K) → HadFaults m least from ks → HadFaults m least (from + 1) (remove ks 0)
     following [] had = λ at k here. absurd (cc)
-    following (k ∷ ks) had = λ at x here. (let same : from + suc at ≡ (from + 1) + at = omega arith in subst (λ (p : ℕ). least p ≤ m.faults x) same (had (suc at) x here))
+    following (k ∷ ks) had = λ at x here.
+        (let same : from + suc at ≡ (from + 1) + at = omega arith in subst (λ (p : ℕ). least p ≤ m.faults x) same (had (suc at) x here))

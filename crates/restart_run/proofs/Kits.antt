@@ -12,12 +12,15 @@ each : {S : Type 0} (replica capacity made : S → ℕ) (own : S → Gives) (giv
     → map (λ s. signer (replica s) (capacity s) (own s) (made s)) sealers ≡ map (λ s. signer (replica s) full (gives (replica s)) 0) sealers
 each replica capacity made own gives full [] fresh room same = refl
 each replica capacity made own gives full (s ∷ sealers) fresh room same =
-    rw (fresh.0, room.0, same.0) (ap (λ rest. signer (replica s) full (gives (replica s)) 0 ∷ rest) (each replica capacity made own gives full sealers fresh.1 room.1 same.1))
+    rw (fresh.0, room.0, same.0)
+    (ap (λ rest. signer (replica s) full (gives (replica s)) 0 ∷ rest) (each replica capacity made own gives full sealers fresh.1 room.1 same.1))
 
 pub made_kit : {S : Type 0} (replica capacity made : S → ℕ) (own : S → Gives) (gives : ℕ → Gives) (full n : ℕ) (sealers : List S)
-    → map replica sealers ≡ range_with_len 0 n → All (λ s. made s ≡ 0) sealers → All (λ s. capacity s ≡ full) sealers → All (λ s. own s ≡ gives (replica s)) sealers
+    → map replica sealers ≡ range_with_len 0 n → All (λ s. made s ≡ 0) sealers → All (λ s. capacity s ≡ full) sealers
+    → All (λ s. own s ≡ gives (replica s)) sealers
     → map (λ s. signer (replica s) (capacity s) (own s) (made s)) sealers ≡ kit_of gives full n
 made_kit replica capacity made own gives full n sealers numbers fresh room same =
-    each replica capacity made own gives full sealers (recursion_from_All _ sealers fresh) (recursion_from_All _ sealers room) (recursion_from_All _ sealers same)
+    each replica capacity made own gives full sealers (recursion_from_All _ sealers fresh) (recursion_from_All _ sealers room)
+    (recursion_from_All _ sealers same)
     ∙ sym (map-map (λ r. signer r full (gives r) 0) replica sealers)
     ∙ ap (map (λ r. signer r full (gives r) 0)) numbers

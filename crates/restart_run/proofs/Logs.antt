@@ -22,7 +22,8 @@ record_journals : (plan : Plan) (w : World) → (record_of plan w).journals ≡ 
 unfolding record_of
 record_journals plan w = refl
 
-logs_hold : {K S : Type 0} (g : Ground K S) (turns : ℕ) (least : ℕ → ℕ) (keepers : List (Keeping K)) (net : Net S) → AreStarted g (starts_by g.plan.restarts turns) least keepers net
+logs_hold : {K S : Type 0} (g : Ground K S) (turns : ℕ) (least : ℕ → ℕ) (keepers : List (Keeping K)) (net : Net S)
+    → AreStarted g (starts_by g.plan.restarts turns) least keepers net
     → AreLogged g.keeps g.plan turns (map (λ k. k.keeper) keepers) (map journal_of (map (replica_of g.means) net.seats))
 logs_hold {K} g turns least keepers net kept = record {
   count = length-map keepers (λ (k : Keeping K). k.keeper) ∙ kept.count ∙ sym (length-map (map (replica_of g.means) net.seats) journal_of);
@@ -36,7 +37,8 @@ logs_hold {K} g turns least keepers net kept = record {
 
 -- they hold what the record shows of the journals
 pub record_logged : {K S : Type 0} (g : Ground K S) (least : ℕ → ℕ) (keepers : List (Keeping K)) (net : Net S) (run : RunRecord) (released : List K)
-    → run ≡ record_of g.plan (world_of g.means net) → released ≡ map (λ k. k.keeper) keepers → AreStarted g (starts_by g.plan.restarts net.turns) least keepers net
+    → run ≡ record_of g.plan (world_of g.means net) → released ≡ map (λ k. k.keeper) keepers
+    → AreStarted g (starts_by g.plan.restarts net.turns) least keepers net
     → AreLogged g.keeps g.plan run.turns released run.journals
 record_logged {K} g least keepers net run released shown are kept =
     let turns : run.turns ≡ net.turns = ap (λ (r : RunRecord). r.turns) shown ∙ record_turns g.plan (world_of g.means net) in
@@ -44,4 +46,5 @@ record_logged {K} g least keepers net run released shown are kept =
     ap (λ (r : RunRecord). r.journals) shown ∙ record_journals g.plan (world_of g.means net) in
     subst (λ (t : ℕ). AreLogged g.keeps g.plan t released run.journals) (sym turns)
     (subst (λ (ks : List K). AreLogged g.keeps g.plan net.turns ks run.journals) (sym are)
-    (subst (λ (js : List Journal). AreLogged g.keeps g.plan net.turns (map (λ k. k.keeper) keepers) js) (sym journals) (logs_hold g net.turns least keepers net kept)))
+    (subst (λ (js : List Journal). AreLogged g.keeps g.plan net.turns (map (λ k. k.keeper) keepers) js) (sym journals)
+    (logs_hold g net.turns least keepers net kept)))

@@ -16,7 +16,8 @@ use Rattle.restart_run.proofs.Places.{set_same}
 use Rattle.restart_run.specs.Started.{AreStarted, AreStartedOr, Ground, IsReopened, lifetimes_of, once_more}
 
 -- a seat whose node is exchanged for one that stands where it stood shows the same replica
-reseated_same : {S : Type 0} (m : Meaning S) (seats : List (Seated S)) (at : ℕ) (node : NodeValue S) (r : Replica) (found : Option (Seated S)) → slice_get seats at ≡ found
+reseated_same : {S : Type 0} (m : Meaning S) (seats : List (Seated S)) (at : ℕ) (node : NodeValue S) (r : Replica) (found : Option (Seated S))
+    → slice_get seats at ≡ found
     → slice_get (map (replica_of m) seats) at ≡ Some r → m.number node.sealer ≡ r.number → m.gives node.sealer ≡ r.gives → node.state ≡ r.state
     → map (replica_of m) (reseated_for seats at node found) ≡ map (replica_of m) seats
 reseated_same m seats at node r None is here number gives state = refl
@@ -24,7 +25,8 @@ reseated_same {S} m seats at node r (Some seat) is here number gives state =
     let there : slice_get (map (replica_of m) seats) at ≡ Some (replica_of m seat) = rw (slice_get-map, is) refl in
     let same : replica_of m seat ≡ r = same_Some (replica_of m seat) r (sym there ∙ here) in
     let one : replica_of m (record seat { node = node }) ≡ replica_of m seat =
-    rw (number ∙ sym (ap (λ (x : Replica). x.number) same), gives ∙ sym (ap (λ (x : Replica). x.gives) same), state ∙ sym (ap (λ (x : Replica). x.state) same)) refl in
+    rw (number ∙ sym (ap (λ (x : Replica). x.number) same), gives ∙ sym (ap (λ (x : Replica). x.gives) same), state ∙ sym (ap (λ (x : Replica). x.state) same))
+    refl in
     map-set (replica_of m) seats at (record seat { node = node })
     ∙ ap (slice_set (map (replica_of m) seats) at) one
     ∙ set_same (map (replica_of m) seats) at (replica_of m seat) there
@@ -42,8 +44,11 @@ module _ {K S : Type 0} (g : Ground K S) where
   other_starts one two least p x s same kept = record {
     faults = kept.faults;
     honest = λ h.
-        let k = (kept.honest h).1 in
-        ((kept.honest h).0, record { number = k.number; gives = k.gives; log = k.log; durable_size = k.durable_size; each = k.each; state = k.state; starts = k.starts ∙ same }, (kept.honest h).2);
+        let k = (kept.honest h).1 in (
+          (kept.honest h).0,
+          record { number = k.number; gives = k.gives; log = k.log; durable_size = k.durable_size; each = k.each; state = k.state; starts = k.starts ∙ same },
+          (kept.honest h).2,
+        );
   }
 
   pub as_often : (one two least : ℕ → ℕ) (keepers : List (Keeping K)) (net : Net S) → ((at : ℕ) → one at ≡ two at)
@@ -54,7 +59,8 @@ module _ {K S : Type 0} (g : Ground K S) where
   }
 
   -- a step of the run changes nothing of that
-  pub step_starts : {X : Type 0} (starts least : ℕ → ℕ) (old : List (Keeping K)) (before : Net S) (result : Result X StepFault) (new : List (Keeping K)) (after : Net S)
+  pub step_starts : {X : Type 0} (starts least : ℕ → ℕ) (old : List (Keeping K)) (before : Net S) (result : Result X StepFault)
+      (new : List (Keeping K)) (after : Net S)
       → GoesKept g.keeps g.means g.fits g.plan old before result new after → AreStarted g starts least old before → AreStartedOr g starts least result new after
   step_starts starts least old before (Ok x) new after goes kept = goes.stays (lifetimes_of g starts least) kept
   step_starts starts least old before (Err fault) new after goes kept = goes.cause (lifetimes_of g starts least) kept
@@ -81,7 +87,8 @@ module _ {K S : Type 0} (g : Ground K S) where
         each = exchanged (IsKeptBy g.keeps g.fits g.plan lifetimes) old new replicas replicas at
             (λ p other. put p ∙ set_elsewhere old at p re.after other) (λ p other. refl)
             (λ x s has_x has_s.
-            subst (λ (y : Keeping K). IsKeptBy g.keeps g.fits g.plan lifetimes at y s) (same_Some re.after x (sym (set_here old at k re.after k_here) ∙ sym (put at) ∙ has_x))
+            subst (λ (y : Keeping K). IsKeptBy g.keeps g.fits g.plan lifetimes at y s)
+            (same_Some re.after x (sym (set_here old at k re.after k_here) ∙ sym (put at) ∙ has_x))
             (subst (IsKeptBy g.keeps g.fits g.plan lifetimes at re.after) (same_Some r s (sym r_here ∙ has_s)) here))
             (λ p other x s has_x has_s. other_starts starts (once_more at starts) least p x s (elsewhere at p starts other) (kept.each p x s has_x has_s));
       })

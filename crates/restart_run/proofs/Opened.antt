@@ -21,7 +21,8 @@ use Rattle.restart_run.specs.Started.{IsAgain, once_more, started_again}
 
 -- a log is read back whole, and in one way
 pub record ReadsBack : Type 0 where
-  pub whole : (digest : List ℕ) (events : List Event) → All CanBeKept events → IsWholePrefix digest (records_of digest events) events (length (records_of digest events))
+  pub whole : (digest : List ℕ) (events : List Event) → All CanBeKept events
+      → IsWholePrefix digest (records_of digest events) events (length (records_of digest events))
   pub size : (s : Parameters) (views me height : ℕ) (keys : List ℕ) → length keys ≡ 32 → length (header_of s views me height keys) ≡ 76
   pub one : (digest log : List ℕ) (a b : List Event) (i j : ℕ) → IsWholePrefix digest log a i → IsWholePrefix digest log b j → (a ≡ b) × (i ≡ j)
 
@@ -32,13 +33,15 @@ length_keys plan = refl
 once_here : (at : ℕ) (starts : ℕ → ℕ) → once_more at starts at ≡ starts at + 1
 once_here at starts = grind (arith, nat_tests)
 
-pub again : {K : Type 0} (m : Meant K) (fits : Check) (plan : Plan) (l : Incarnations) (at : ℕ) (r : Replica) (k stopped after : K) (gives : Gives) (number capacity : ℕ) (keys digest : List ℕ) (now : State)
+pub again : {K : Type 0} (m : Meant K) (fits : Check) (plan : Plan) (l : Incarnations) (at : ℕ) (r : Replica) (k stopped after : K)
+    (gives : Gives) (number capacity : ℕ) (keys digest : List ℕ) (now : State)
     → ReadsBack → HoldsLogOf m fits plan l at k r → number ≡ at → keys ≡ keys_of plan → gives ≡ l.gives at → capacity ≡ l.capacity
     → Stays (m.durable_size k) (m.bytes k) (m.bytes stopped) → m.openings stopped ≡ m.openings k
     → IsOpened fits gives plan.setting plan.views number (height_number plan.height) capacity keys (m.bytes stopped) (m.bytes after) digest now
     → m.durable_size after ≡ length (m.bytes after) → m.openings after ≡ m.openings stopped + 1
     → IsAgain m fits plan (started_again l at) at after digest r now
-again m fits plan l at r k stopped after gives number capacity keys digest now reads kept is_number is_keys is_gives is_capacity stays same_openings opened durable_size openings =
+again m fits plan l at r k stopped after gives number capacity keys digest now reads kept is_number is_keys is_gives is_capacity stays
+    same_openings opened durable_size openings =
     let events = events_of r.journal in
     let all : length (m.bytes k) ≤ stays.size = (let a = stays.holds in let b = kept.durable_size in omega arith) in
     let header = header_at plan at in
@@ -46,13 +49,16 @@ again m fits plan l at r k stopped after gives number capacity keys digest now r
     let left : m.bytes stopped ≡ header ++ LogOf header events = stays.prefix ∙ take_all stays.size (m.bytes k) all ∙ kept.log in
     let start = header_digest header in
     let records : records_in (m.bytes stopped) ≡ LogOf header events =
-    ap (λ (b : List ℕ). drop 76 b) left ∙ drop_at header (LogOf header events) 76 (reads.size plan.setting plan.views at height (keys_of plan) (length_keys plan)) in
+    ap (λ (b : List ℕ). drop 76 b) left
+    ∙ drop_at header (LogOf header events) 76 (reads.size plan.setting plan.views at height (keys_of plan) (length_keys plan)) in
     let own : header_of plan.setting plan.views number height keys ≡ header =
-    ap (λ (me : ℕ). header_of plan.setting plan.views me height keys) is_number ∙ ap (λ (ks : List ℕ). header_of plan.setting plan.views at height ks) is_keys in
+    ap (λ (me : ℕ). header_of plan.setting plan.views me height keys) is_number
+    ∙ ap (λ (ks : List ℕ). header_of plan.setting plan.views at height ks) is_keys in
     let prefix : IsWholePrefix start (LogOf header events) opened.events opened.end =
     subst (λ (log : List ℕ). IsWholePrefix start log opened.events opened.end) records
     (subst (λ (h : List ℕ). IsWholePrefix (header_digest h) (records_in (m.bytes stopped)) opened.events opened.end) own opened.prefix) in
-    let read : opened.events ≡ events = (reads.one start (LogOf header events) opened.events events opened.end (length (LogOf header events)) prefix (reads.whole start events kept.each)).0 in
+    let read : opened.events ≡ events =
+    (reads.one start (LogOf header events) opened.events events opened.end (length (LogOf header events)) prefix (reads.whole start events kept.each)).0 in
     let state : now ≡ state_after fits (l.gives at) (opening_state plan.setting plan.views at l.capacity) events =
     opened.state
     ∙ ap (λ (es : List Event). state_after fits gives (opening_state plan.setting plan.views number capacity) es) read

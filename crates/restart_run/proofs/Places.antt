@@ -27,7 +27,8 @@ set_same (y ∷ xs) (suc at) x has = ap (λ (t : List _). y ∷ t) (set_same xs 
 
 -- ---- results
 
-pub if_both : {X E : Type 0} (result : Result X E) (P : X → Type 0) (Q : Type 0) (R : X → Type 0) → ((x : X) → P x → Q → R x) → IfOk result P → OnOk result Q → IfOk result R
+pub if_both : {X E : Type 0} (result : Result X E) (P : X → Type 0) (Q : Type 0) (R : X → Type 0) → ((x : X) → P x → Q → R x)
+    → IfOk result P → OnOk result Q → IfOk result R
 if_both (Ok x) P Q R both p q = both x p q
 if_both (Err e) P Q R both p q = tt
 

@@ -23,7 +23,8 @@ and_true false c is = refl
 pub amid_due : (restarts : List Restart) (from turns i : ℕ) (d r : Restart) → r ≡ get_or restarts i d → i < length restarts → is_due from turns r ≡ true
     → (at : ℕ) → once_more r.replica (starts_amid restarts from turns i) at ≡ starts_amid restarts from turns (i + 1) at
 amid_due restarts from turns i d r is below due at =
-    let test : is_due_of at from turns (get_or restarts i d) ≡ (r.replica == at) = ap (is_due_of at from turns) (sym is) ∙ and_true (r.replica == at) (is_due from turns r) due in
+    let test : is_due_of at from turns (get_or restarts i d) ≡ (r.replica == at) =
+    ap (is_due_of at from turns) (sym is) ∙ and_true (r.replica == at) (is_due from turns r) due in
     elim (cases_Bool (r.replica == at)) [
       | inl holds_so ↦
           let more = count_by_more_yes (is_due_of at from turns) restarts i d below (test ∙ holds_so) in
@@ -39,7 +40,8 @@ amid_due restarts from turns i d r is below due at =
 pub amid_not : (restarts : List Restart) (from turns i : ℕ) (d r : Restart) → r ≡ get_or restarts i d → i < length restarts → is_due from turns r ≡ false
     → (at : ℕ) → starts_amid restarts from turns i at ≡ starts_amid restarts from turns (i + 1) at
 amid_not restarts from turns i d r is below not_due at =
-    let test : is_due_of at from turns (get_or restarts i d) ≡ false = ap (is_due_of at from turns) (sym is) ∙ and_right (r.replica == at) (is_due from turns r) not_due in
+    let test : is_due_of at from turns (get_or restarts i d) ≡ false =
+    ap (is_due_of at from turns) (sym is) ∙ and_right (r.replica == at) (is_due from turns r) not_due in
     let more = count_by_more_no (is_due_of at from turns) restarts i d below test in
     omega (arith, more)
 

@@ -52,7 +52,8 @@ abbrev pub once_more : ℕ → (ℕ → ℕ) → ℕ → ℕ
 once_more replica starts at = starts at + (if replica == at then 1 else 0)
 
 -- A reopened node has the state that its replica had, and the keeper holds the same log, with this running digest.
-pub record IsAgain {K : Type 0} (m : Meant K) (fits : Check) (plan : Plan) (l : Incarnations) (at : ℕ) (keeper : K) (digest : List ℕ) (r : Replica) (now : State) : Type 0 where
+pub record IsAgain {K : Type 0} (m : Meant K) (fits : Check) (plan : Plan) (l : Incarnations) (at : ℕ) (keeper : K) (digest : List ℕ)
+    (r : Replica) (now : State) : Type 0 where
   pub state : now ≡ r.state
   pub kept : HoldsLogOf m fits plan l at keeper r
   pub moved : digest ≡ log_digest (header_at plan at) (events_of r.journal)
@@ -61,7 +62,8 @@ abbrev pub started_again : Incarnations → ℕ → Incarnations
 started_again l replica = record l { starts = once_more replica l.starts }
 
 -- The keeper at a place holds the log of a replica with an unchanged state, and no other keeper was touched.
-pub record IsReopened {K : Type 0} (m : Meant K) (fits : Check) (plan : Plan) (l : Incarnations) (at : ℕ) (r : Replica) (now : State) (k : Keeping K) (old new : List (Keeping K)) : Type 0 where
+pub record IsReopened {K : Type 0} (m : Meant K) (fits : Check) (plan : Plan) (l : Incarnations) (at : ℕ) (r : Replica) (now : State)
+    (k : Keeping K) (old new : List (Keeping K)) : Type 0 where
   pub after : Keeping K
   pub on : after.on ≡ true
   pub later : m.faults k.keeper ≤ m.faults after.keeper
@@ -72,12 +74,15 @@ pub record IsReopened {K : Type 0} (m : Meant K) (fits : Check) (plan : Plan) (l
 -- holds the log of a replica that gave the same seals and could make as many, the reopened node has the state of that
 -- replica.
 abbrev pub OpensAgain : {K S : Type 0} → Meant K → Check → Plan → ℕ → Gives → ℕ → K → Result (NodeValue S) StepFault → K → List ℕ → Type 0
-OpensAgain m fits plan at gives capacity old result new digest = (l : Incarnations) (r : Replica) → HoldsLogOf m fits plan l at old r → gives ≡ l.gives at → capacity ≡ l.capacity
+OpensAgain m fits plan at gives capacity old result new digest = (l : Incarnations) (r : Replica) → HoldsLogOf m fits plan l at old r
+    → gives ≡ l.gives at → capacity ≡ l.capacity
     → IfOk result (λ node. IsAgain m fits plan (started_again l at) at new digest r node.state)
 
 -- the same for the replica whose keeper is at a place
-abbrev pub OpensAgainAt : {K S : Type 0} → Meant K → Check → Plan → ℕ → Gives → ℕ → List (Keeping K) → Result (NodeValue S) StepFault → List (Keeping K) → Type 0
-OpensAgainAt {K} m fits plan at gives capacity old result new = (l : Incarnations) (r : Replica) (k : Keeping K) → slice_get old at ≡ Some k → HoldsLogOf m fits plan l at k.keeper r
+abbrev pub OpensAgainAt : {K S : Type 0} → Meant K → Check → Plan → ℕ → Gives → ℕ → List (Keeping K) → Result (NodeValue S) StepFault
+    → List (Keeping K) → Type 0
+OpensAgainAt {K} m fits plan at gives capacity old result new = (l : Incarnations) (r : Replica) (k : Keeping K) → slice_get old at ≡ Some k
+    → HoldsLogOf m fits plan l at k.keeper r
     → gives ≡ l.gives at → capacity ≡ l.capacity → IfOk result (λ node. IsReopened m fits plan l at r node.state k old new)
 
 -- there is an element at this place
@@ -91,5 +96,6 @@ AreStartedOr g starts least (Ok x) new after = AreStarted g starts least new aft
 AreStartedOr g starts least (Err fault) new after = IsStopFor g.keeps least new fault
 
 -- a part of the run, by how many times the replicas were started before it and after it
-pub record Starts {K S X : Type 0} (g : Ground K S) (from to : ℕ → ℕ) (old : List (Keeping K)) (before : Net S) (result : Result X StepFault) (new : List (Keeping K)) (after : Net S) : Type 0 where
+pub record Starts {K S X : Type 0} (g : Ground K S) (from to : ℕ → ℕ) (old : List (Keeping K)) (before : Net S)
+    (result : Result X StepFault) (new : List (Keeping K)) (after : Net S) : Type 0 where
   pub go : (least : ℕ → ℕ) → AreStarted g from least old before → AreStartedOr g to least result new after

@@ -158,7 +158,8 @@ fn step_kept<M: SealGrower, C: Checker, K: Keeper>(
     ensures world { IfOk result (λ goes_on. step (C.meaning checker.now) plan.now (world_of (meaning M.S.replica M.S.gives) network.old)
         ≡ record { goes_on = goes_on; world = world_of (meaning M.S.replica M.S.gives) network.new }) }
     ensures kept { Starts (ground (meant K.Keeper) (meaning M.S.replica M.S.gives) (C.meaning checker.now) plan.now (M.gives maker.now))
-        (starts_before plan.now.restarts from) (starts_before plan.now.restarts (network.old.turns + 1)) keepers.old network.old result keepers.new network.new }
+        (starts_before plan.now.restarts from)
+        (starts_before plan.now.restarts (network.old.turns + 1)) keepers.old network.old result keepers.new network.new }
 {
     restart_due(alloc, network, keepers, plan, checker, maker, from)?;
     network.step(keepers, plan, checker)

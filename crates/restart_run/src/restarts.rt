@@ -34,7 +34,8 @@ pub(crate) fn restart_due<M: SealGrower, C: Checker, K: Keeper>(
         (starts_before plan.now.restarts from) none_failed keepers.old network.old }
     ensures world { OnOk result (world_of (meaning M.S.replica M.S.gives) network.new ≡ world_of (meaning M.S.replica M.S.gives) network.old) }
     ensures kept { Starts (ground (meant K.Keeper) (meaning M.S.replica M.S.gives) (C.meaning checker.now) plan.now (M.gives maker.now))
-        (starts_before plan.now.restarts from) (starts_before plan.now.restarts (network.old.turns + 1)) keepers.old network.old result keepers.new network.new }
+        (starts_before plan.now.restarts from)
+        (starts_before plan.now.restarts (network.old.turns + 1)) keepers.old network.old result keepers.new network.new }
 {
     let turns = network.turns;
     for restart in plan.restarts.as_slice() {
@@ -65,7 +66,8 @@ fn restart_at<M: SealGrower, C: Checker, K: Keeper>(
     requires below { replica < plan.now.setting.n }
     requires honest { is_among plan.now.faulty replica ≡ false }
     requires room { 5 * plan.now.views ≤ capacity_of plan.now.height }
-    requires kept { IsUnderWay (ground (meant K.Keeper) (meaning M.S.replica M.S.gives) (C.meaning checker.now) plan.now (M.gives maker.now)) keepers.old network.old }
+    requires kept { IsUnderWay
+        (ground (meant K.Keeper) (meaning M.S.replica M.S.gives) (C.meaning checker.now) plan.now (M.gives maker.now)) keepers.old network.old }
     ensures world { OnOk result (world_of (meaning M.S.replica M.S.gives) network.new ≡ world_of (meaning M.S.replica M.S.gives) network.old) }
     ensures kept { (starts : ℕ → ℕ) → Starts (ground (meant K.Keeper) (meaning M.S.replica M.S.gives) (C.meaning checker.now) plan.now (M.gives maker.now))
         starts (once_more replica starts) keepers.old network.old result keepers.new network.new }

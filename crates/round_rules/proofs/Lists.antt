@@ -55,6 +55,8 @@ cut_fewer zero journal = omega arith
 cut_fewer (suc k) journal = before_fewer k journal
 
 -- before one of some events with known arrivals, the node knew the whole list
-pub fed_before : (base known : List Tx) (xs : List Event) (e : Event) (ys : List Event) → FedEach base known (xs ++ e ∷ ys) → is_delivery e ≡ true → IsPrefix base (known ++ known_in xs)
+pub fed_before : (base known : List Tx) (xs : List Event) (e : Event) (ys : List Event) → FedEach base known (xs ++ e ∷ ys)
+    → is_delivery e ≡ true → IsPrefix base (known ++ known_in xs)
 fed_before base known [] e ys fed so = subst (IsPrefix base) (sym (append-nil known)) (fed.0 so)
-fed_before base known (x ∷ xs) e ys fed so = subst (IsPrefix base) (append_assoc known (carried_by x) (known_in xs)) (fed_before base (known ++ carried_by x) xs e ys fed.1 so)
+fed_before base known (x ∷ xs) e ys fed so =
+    subst (IsPrefix base) (append_assoc known (carried_by x) (known_in xs)) (fed_before base (known ++ carried_by x) xs e ys fed.1 so)

@@ -82,12 +82,15 @@ module _ (fits : Check) (plan : Plan) (gives : ℕ → Gives) (capacity : ℕ) w
     replica = l.replica;
     below = l.below;
     honest = l.honest;
-    lacks = subst (λ (j : List Entry). hold_all (batches_of (after_events fits plan (gives l.replica) capacity l.replica (events_of j)).replica) (due_in plan) ≡ false) (s l.replica l.below) l.lacks;
+    lacks = subst (λ (j : List Entry).
+        hold_all (batches_of (after_events fits plan (gives l.replica) capacity l.replica (events_of j)).replica) (due_in plan) ≡ false)
+        (s l.replica l.below) l.lacks;
   }
 
   -- ---- a round
 
-  module _ (m n : Moment) (tick : Option ℕ) (logs : ℕ → List Tx) (r : IsRound plan tick logs m n) (rounds ticks : ℕ) (h : HasKept fits plan gives capacity rounds ticks m) where
+  module _ (m n : Moment) (tick : Option ℕ) (logs : ℕ → List Tx) (r : IsRound plan tick logs m n) (rounds ticks : ℕ)
+      (h : HasKept fits plan gives capacity rounds ticks m) where
     stays : (k : ℕ) → k < ticks → Same (at_tick k m) (at_tick k n)
     stays k lt at below =
         let are = h.ticks_are at below in
@@ -101,13 +104,16 @@ module _ (fits : Check) (plan : Plan) (gives : ℕ → Gives) (capacity : ℕ) w
     -- the moment before the tick of the round is the moment before the round
     now : (floor : ℕ) → tick ≡ Some floor → Same m (at_tick ticks n)
     now floor is at below =
-        let reported : events_of ((r at below).more) ≡ Tick floor ∷ (r at below).events = (r at below).reported ∙ ap (λ (t : Option ℕ). tick_of t ++ (r at below).events) is in
+        let reported : events_of ((r at below).more) ≡ Tick floor ∷ (r at below).events =
+        (r at below).reported ∙ ap (λ (t : Option ℕ). tick_of t ++ (r at below).events) is in
         let (e, rest, more_is, event_is) = first_is ((r at below).more) (Tick floor) ((r at below).events) reported in
-        sym (ap (before_tick ticks) ((r at below).grown ∙ ap (λ (l : List Entry). m at ++ l) more_is) ∙ cut_here ticks (m at) e rest (h.ticks_are at below) (ap is_tick event_is))
+        sym (ap (before_tick ticks) ((r at below).grown ∙ ap (λ (l : List Entry). m at ++ l) more_is)
+        ∙ cut_here ticks (m at) e rest (h.ticks_are at below) (ap is_tick event_is))
 
     new_events : (at : ℕ) (below : at < plan.setting.n) → events_of (n at) ≡ events_of (m at) ++ (tick_of tick ++ (r at below).events)
     new_events at below =
-        ap events_of (r at below).grown ∙ map-append (λ (e : Entry). e.event) (m at) ((r at below).more) ∙ ap (λ (l : List Event). events_of (m at) ++ l) ((r at below).reported)
+        ap events_of (r at below).grown ∙ map-append (λ (e : Entry). e.event) (m at) ((r at below).more)
+        ∙ ap (λ (l : List Event). events_of (m at) ++ l) ((r at below).reported)
 
     new_ticks : (at : ℕ) → at < plan.setting.n → ticks_in (events_of (n at)) ≡ ticks + ticks_of tick
     new_ticks at below =
@@ -140,7 +146,8 @@ module _ (fits : Check) (plan : Plan) (gives : ℕ → Gives) (capacity : ℕ) w
       | inl before ↦ subst (λ (t : ℕ). t < plan.turns) (turns_same (at_tick k m) (at_tick k n) (stays k before)) (h.turns_left k before)
       | inr q ↦ (
           let here : MayTick fits plan gives capacity m (Some q.1) = subst (MayTick fits plan gives capacity m) q.2 may in
-          subst (λ (j : ℕ). turns_at plan (at_tick j n) < plan.turns) (sym q.0) (subst (λ (t : ℕ). t < plan.turns) (turns_same m (at_tick ticks n) (now q.1 q.2)) here.turns_left))
+          subst (λ (j : ℕ). turns_at plan (at_tick j n) < plan.turns) (sym q.0)
+          (subst (λ (t : ℕ). t < plan.turns) (turns_same m (at_tick ticks n) (now q.1 q.2)) here.turns_left))
     ]
 
     new_lacking : MayTick fits plan gives capacity m tick → (k : ℕ) → k < ticks + ticks_of tick → LacksOne fits plan gives capacity (due_in plan) (at_tick k n)
@@ -148,7 +155,8 @@ module _ (fits : Check) (plan : Plan) (gives : ℕ → Gives) (capacity : ℕ) w
       | inl before ↦ lacking_same (at_tick k m) (at_tick k n) (stays k before) (h.lacking k before)
       | inr q ↦ (
           let here : MayTick fits plan gives capacity m (Some q.1) = subst (MayTick fits plan gives capacity m) q.2 may in
-          subst (λ (j : ℕ). LacksOne fits plan gives capacity (due_in plan) (at_tick j n)) (sym q.0) (lacking_same m (at_tick ticks n) (now q.1 q.2) here.lacking))
+          subst (λ (j : ℕ). LacksOne fits plan gives capacity (due_in plan) (at_tick j n)) (sym q.0)
+          (lacking_same m (at_tick ticks n) (now q.1 q.2) here.lacking))
     ]
 
     new_floors : MayTick fits plan gives capacity m tick → (k at : ℕ) → k < ticks + ticks_of tick → at < plan.setting.n
@@ -157,13 +165,16 @@ module _ (fits : Check) (plan : Plan) (gives : ℕ → Gives) (capacity : ℕ) w
       | inl before ↦ (
           let old = h.floors k at before below in
           let grown : slice_get (events_of (n at)) (length (before_tick k (m at))) ≡ Some (Tick (floor_at fits plan gives capacity (at_tick k m))) =
-          subst (λ (es : List Event). slice_get es (length (before_tick k (m at))) ≡ Some (Tick (floor_at fits plan gives capacity (at_tick k m)))) (sym (new_events at below))
-          (get_grown (events_of (m at)) (tick_of tick ++ (r at below).events) (length (before_tick k (m at))) (Tick (floor_at fits plan gives capacity (at_tick k m))) old) in
+          subst (λ (es : List Event). slice_get es (length (before_tick k (m at))) ≡ Some (Tick (floor_at fits plan gives capacity (at_tick k m))))
+          (sym (new_events at below))
+          (get_grown (events_of (m at)) (tick_of tick ++ (r at below).events) (length (before_tick k (m at)))
+          (Tick (floor_at fits plan gives capacity (at_tick k m))) old) in
           ap (λ (j : List Entry). slice_get (events_of (n at)) (length j)) (sym (stays k before at below)) ∙ grown
           ∙ ap (λ (f : ℕ). Some (Tick f)) (floor_same (at_tick k m) (at_tick k n) (stays k before)))
       | inr q ↦ (
           let here : MayTick fits plan gives capacity m (Some q.1) = subst (MayTick fits plan gives capacity m) q.2 may in
-          let events_are : events_of (n at) ≡ events_of (m at) ++ Tick q.1 ∷ (r at below).events = new_events at below ∙ ap (λ (t : Option ℕ). events_of (m at) ++ (tick_of t ++ (r at below).events)) q.2 in
+          let events_are : events_of (n at) ≡ events_of (m at) ++ Tick q.1 ∷ (r at below).events =
+          new_events at below ∙ ap (λ (t : Option ℕ). events_of (m at) ++ (tick_of t ++ (r at below).events)) q.2 in
           let last : slice_get (events_of (n at)) (length (m at)) ≡ Some (Tick q.1) =
           ap (λ (es : List Event). slice_get es (length (m at))) events_are
           ∙ ap (slice_get (events_of (m at) ++ Tick q.1 ∷ (r at below).events)) (sym (length-map (m at) (λ (e : Entry). e.event)))
@@ -171,7 +182,8 @@ module _ (fits : Check) (plan : Plan) (gives : ℕ → Gives) (capacity : ℕ) w
           let at_last : slice_get (events_of (n at)) (length (before_tick ticks (n at))) ≡ Some (Tick (floor_at fits plan gives capacity (at_tick ticks n))) =
           ap (λ (j : List Entry). slice_get (events_of (n at)) (length j)) (sym (now q.1 q.2 at below)) ∙ last
           ∙ ap (λ (f : ℕ). Some (Tick f)) (here.greatest ∙ floor_same m (at_tick ticks n) (now q.1 q.2)) in
-          subst (λ (j : ℕ). slice_get (events_of (n at)) (length (before_tick j (n at))) ≡ Some (Tick (floor_at fits plan gives capacity (at_tick j n)))) (sym q.0) at_last)
+          subst (λ (j : ℕ). slice_get (events_of (n at)) (length (before_tick j (n at))) ≡ Some (Tick (floor_at fits plan gives capacity (at_tick j n))))
+          (sym q.0) at_last)
     ]
 
     new_fed : ((at : ℕ) → at < plan.setting.n → ticks_of tick ≡ 1 → Knows plan at (turns_at plan (at_cut ticks m)) (64 * ticks) (m at))
@@ -184,21 +196,28 @@ module _ (fits : Check) (plan : Plan) (gives : ℕ → Gives) (capacity : ℕ) w
       | inr q ↦ (
           let old = knows at below (ap ticks_of q.2) in
           subst (λ (j : ℕ). Knows plan at (turns_at plan (at_cut j n)) (64 * j) (before_tick j (n at))) (sym q.0)
-          (subst (λ (t : ℕ). Knows plan at t (64 * ticks) (before_tick ticks (n at))) (turns_same (at_cut ticks m) (at_cut ticks n) (cut_stays_too ticks (omega arith)))
+          (subst (λ (t : ℕ). Knows plan at t (64 * ticks) (before_tick ticks (n at)))
+          (turns_same (at_cut ticks m) (at_cut ticks n) (cut_stays_too ticks (omega arith)))
           (subst (Knows plan at (turns_at plan (at_cut ticks m)) (64 * ticks)) (now q.1 q.2 at below) old)))
     ]
 
-    module _ (t : ℕ) (covers : (at : ℕ) → at < plan.setting.n → deliveries (events_of (m at)) ≤ t) (held : (at : ℕ) → at < plan.setting.n → Holds plan at t (64 * rounds) (logs at)) where
+    module _ (t : ℕ) (covers : (at : ℕ) → at < plan.setting.n → deliveries (events_of (m at)) ≤ t)
+        (held : (at : ℕ) → at < plan.setting.n → Holds plan at t (64 * rounds) (logs at)) where
       -- before a delivery of the round
-      fed_mid : (at : ℕ) (mid : List Entry) (e : Entry) (back : List Entry) (below : at < plan.setting.n) → (r at below).more ≡ mid ++ e ∷ back → is_delivery e.event ≡ true
+      fed_mid : (at : ℕ) (mid : List Entry) (e : Entry) (back : List Entry) (below : at < plan.setting.n)
+          → (r at below).more ≡ mid ++ e ∷ back → is_delivery e.event ≡ true
           → Knows plan at (deliveries (events_of (m at ++ mid)) - 31) (64 * (deliveries (events_of (m at ++ mid)) / 32)) (m at ++ mid)
       fed_mid at mid e back below more_is so =
-          let parts : events_of mid ++ e.event ∷ events_of back ≡ tick_of tick ++ (r at below).events = sym (map-append (λ (x : Entry). x.event) mid (e ∷ back)) ∙ ap events_of (sym more_is) ∙ (r at below).reported in
+          let parts : events_of mid ++ e.event ∷ events_of back ≡ tick_of tick ++ (r at below).events =
+          sym (map-append (λ (x : Entry). x.event) mid (e ∷ back)) ∙ ap events_of (sym more_is) ∙ (r at below).reported in
           let fed : FedEach (logs at) (known_in (events_of (m at))) (events_of mid ++ e.event ∷ events_of back) =
-          subst (FedEach (logs at) (known_in (events_of (m at)))) (sym parts) (fed_ticked (logs at) (known_in (events_of (m at))) tick ((r at below).events) (r at below).fed.fed) in
+          subst (FedEach (logs at) (known_in (events_of (m at)))) (sym parts)
+          (fed_ticked (logs at) (known_in (events_of (m at))) tick ((r at below).events) (r at below).fed.fed) in
           let prefix_is : events_of (m at ++ mid) ≡ events_of (m at) ++ events_of mid = map-append (λ (x : Entry). x.event) (m at) mid in
-          let known_is : known_in (events_of (m at ++ mid)) ≡ known_in (events_of (m at)) ++ known_in (events_of mid) = ap known_in prefix_is ∙ known-append (events_of (m at)) (events_of mid) in
-          let pre : IsPrefix (logs at) (known_in (events_of (m at ++ mid))) = subst (IsPrefix (logs at)) (sym known_is) (fed_before (logs at) (known_in (events_of (m at))) (events_of mid) e.event (events_of back) fed so) in
+          let known_is : known_in (events_of (m at ++ mid)) ≡ known_in (events_of (m at)) ++ known_in (events_of mid) =
+          ap known_in prefix_is ∙ known-append (events_of (m at)) (events_of mid) in
+          let pre : IsPrefix (logs at) (known_in (events_of (m at ++ mid))) = subst (IsPrefix (logs at)) (sym known_is)
+          (fed_before (logs at) (known_in (events_of (m at))) (events_of mid) e.event (events_of back) fed so) in
           let a = ap deliveries prefix_is ∙ deliveries-append (events_of (m at)) (events_of mid) in
           let b = deliveries-append (events_of mid) (e.event ∷ events_of back) in
           let c = ap deliveries parts ∙ deliveries-append (tick_of tick) ((r at below).events) in
@@ -217,10 +236,12 @@ module _ (fits : Check) (plan : Plan) (gives : ℕ → Gives) (capacity : ℕ) w
           → Knows plan at (deliveries (events_of prefix) - 31) (64 * (deliveries (events_of prefix) / 32)) prefix
       new_before at prefix e back below is so = elim (two_parts (m at) ((r at below).more) prefix e back (sym (r at below).grown ∙ is)) [
         | inl a ↦ h.before_each at prefix e a.0 below a.1 so
-        | inr b ↦ subst (λ (f : List Entry). Knows plan at (deliveries (events_of f) - 31) (64 * (deliveries (events_of f) / 32)) f) (sym b.1) (fed_mid at b.0 e back below b.2 so)
+        | inr b ↦ subst (λ (f : List Entry). Knows plan at (deliveries (events_of f) - 31) (64 * (deliveries (events_of f) / 32)) f)
+            (sym b.1) (fed_mid at b.0 e back below b.2 so)
       ]
 
-      pub kept_on : MayTick fits plan gives capacity m tick → ((at : ℕ) → at < plan.setting.n → ticks_of tick ≡ 1 → Knows plan at (turns_at plan (at_cut ticks m)) (64 * ticks) (m at))
+      pub kept_on : MayTick fits plan gives capacity m tick
+          → ((at : ℕ) → at < plan.setting.n → ticks_of tick ≡ 1 → Knows plan at (turns_at plan (at_cut ticks m)) (64 * ticks) (m at))
           → HasKept fits plan gives capacity (rounds + 1) (ticks + ticks_of tick) n
       kept_on may knows = record {
         ticks_are = new_ticks;
@@ -238,7 +259,8 @@ module _ (fits : Check) (plan : Plan) (gives : ℕ → Gives) (capacity : ℕ) w
       }
 
     -- at the cut before the last tick there are no more deliveries than when the round began
-    fewer_at : (t : Option ℕ) → tick ≡ t → (at : ℕ) → at < plan.setting.n → deliveries (events_of (cut (ticks + ticks_of t) (n at))) ≤ deliveries (events_of (m at))
+    fewer_at : (t : Option ℕ) → tick ≡ t → (at : ℕ) → at < plan.setting.n
+        → deliveries (events_of (cut (ticks + ticks_of t) (n at))) ≤ deliveries (events_of (m at))
     fewer_at None is at below =
         let same : ticks + 0 ≡ ticks = omega arith in
         let less = cut_fewer ticks (m at) in
@@ -257,7 +279,8 @@ module _ (fits : Check) (plan : Plan) (gives : ℕ → Gives) (capacity : ℕ) w
         (λ k lt. fewer_at tick refl k (omega (arith, lt)))
 
   -- one more round
-  pub gone_on : (m n : Moment) (tick : Option ℕ) (logs : ℕ → List Tx) (rounds ticks base : ℕ) → HasGone fits plan gives capacity rounds ticks base m → IsRound plan tick logs m n
+  pub gone_on : (m n : Moment) (tick : Option ℕ) (logs : ℕ → List Tx) (rounds ticks base : ℕ)
+      → HasGone fits plan gives capacity rounds ticks base m → IsRound plan tick logs m n
       → MayTick fits plan gives capacity m tick → ((at : ℕ) → at < plan.setting.n → Holds plan at (turns_at plan m) (64 * rounds) (logs at))
       → HasGone fits plan gives capacity (rounds + 1) (ticks + ticks_of tick) (turns_at plan m) n
   gone_on m n tick logs rounds ticks base g r may held =
@@ -299,7 +322,8 @@ module _ (fits : Check) (plan : Plan) (gives : ℕ → Gives) (capacity : ℕ) w
   -- ---- the end
 
   -- what a record says of ticks
-  pub gone_ticked : (run : RunRecord) (rounds base : ℕ) (m : Moment) → HasGone fits plan gives capacity rounds run.ticks base m → run.turns ≡ turns_at plan m → AreTicked fits plan gives capacity run m
+  pub gone_ticked : (run : RunRecord) (rounds base : ℕ) (m : Moment) → HasGone fits plan gives capacity rounds run.ticks base m
+      → run.turns ≡ turns_at plan m → AreTicked fits plan gives capacity run m
   gone_ticked run rounds base m g turns = record { turns = turns; ticks = g.kept.ticks_are; whole = g.kept.whole; floors = g.kept.floors }
 
   -- and what it says of what nodes know at each cut

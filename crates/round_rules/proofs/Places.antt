@@ -20,7 +20,8 @@ all_at P xs i x all is = subst P (get_or_from_slice_get xs i x x is) (all i x (s
 
 -- ---- one item replaced
 
-pub set_cases : {X : Type 0} (xs : List X) (i j : ℕ) (x y : X) → slice_get (slice_set xs i x) j ≡ Some y → ((i ≡ j) × (x ≡ y)) ⊎ ((i ≡ j → ⊥) × (slice_get xs j ≡ Some y))
+pub set_cases : {X : Type 0} (xs : List X) (i j : ℕ) (x y : X) → slice_get (slice_set xs i x) j ≡ Some y
+    → ((i ≡ j) × (x ≡ y)) ⊎ ((i ≡ j → ⊥) × (slice_get xs j ≡ Some y))
 set_cases [] i j x y found = absurd (cc)
 set_cases (z ∷ xs) zero zero x y found = inl (refl, (let same : x ≡ y = cc in same))
 set_cases (z ∷ xs) zero (suc j) x y found = inr (λ same. (omega (arith, same)), found)

@@ -52,13 +52,15 @@ AreLinked plan m = (from to : ℕ) → from < plan.setting.n → to < plan.setti
 pub record AreFed (plan : Plan) (run : RunRecord) (m : Moment) : Type 0 where
   pub reported : (at : ℕ) → at < plan.setting.n → IsPrefix (known_in (events_of (m at))) (get_or run.arrivals at [])
   pub at_cuts : (k at : ℕ) → k ≤ run.ticks → at < plan.setting.n → Knows plan at (turns_at plan (at_cut k m)) (64 * k) (before_tick k (m at))
-  pub before_each : (at : ℕ) (prefix : List Entry) (e : Entry) (back : List Entry) → at < plan.setting.n → m at ≡ prefix ++ e ∷ back → is_delivery e.event ≡ true
+  pub before_each : (at : ℕ) (prefix : List Entry) (e : Entry) (back : List Entry) → at < plan.setting.n → m at ≡ prefix ++ e ∷ back
+      → is_delivery e.event ≡ true
       → Knows plan at (deliveries (events_of prefix) - 31) (64 * (deliveries (events_of prefix) / 32)) prefix
   pub none_early : (k at : ℕ) → k ≤ run.ticks → at < plan.setting.n → KnowsNoneEarly plan at (turns_at plan (at_tick k m)) (before_tick k (m at))
 
 -- every honest list holds every due transaction
 abbrev pub IsDone : Plan → RunRecord → Type 0
-IsDone plan run = (at : ℕ) → at < plan.setting.n → is_among plan.faulty at ≡ false → hold_all (get_or run.batches at []) (due_of plan.setting.n plan.faulty run.arrivals) ≡ true
+IsDone plan run = (at : ℕ) → at < plan.setting.n → is_among plan.faulty at ≡ false
+    → hold_all (get_or run.batches at []) (due_of plan.setting.n plan.faulty run.arrivals) ≡ true
 
 -- 7: the run ended because all was done, or it used all turns, or all ticks with every link's output delivered
 pub record HasEnded (plan : Plan) (run : RunRecord) (m : Moment) : Type 0 where
@@ -86,8 +88,10 @@ module _ (fits : Check) (plan : Plan) (gives : ℕ → Gives) (capacity : ℕ) w
 
   -- 8: each head and each list of batches is that of the node after its journal
   pub record AreShown (run : RunRecord) (m : Moment) : Type 0 where
-    pub heads : (at : ℕ) → at < plan.setting.n → slice_get run.heads at ≡ Some (head_of (after_events fits plan (gives at) capacity at (events_of (m at))).replica)
-    pub batches : (at : ℕ) → at < plan.setting.n → slice_get run.batches at ≡ Some (batches_of (after_events fits plan (gives at) capacity at (events_of (m at))).replica)
+    pub heads : (at : ℕ) → at < plan.setting.n
+        → slice_get run.heads at ≡ Some (head_of (after_events fits plan (gives at) capacity at (events_of (m at))).replica)
+    pub batches : (at : ℕ) → at < plan.setting.n
+        → slice_get run.batches at ≡ Some (batches_of (after_events fits plan (gives at) capacity at (events_of (m at))).replica)
 
   -- 10: The run continued for a cause: before each tick its turns were not used up, and the batches of an honest
   -- replica lacked a due transaction.

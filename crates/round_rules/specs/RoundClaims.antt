@@ -32,4 +32,5 @@ module _ (fits : Check) (plan : Plan) (gives : ℕ → Gives) (capacity : ℕ) w
 
   -- the clause of `Ran` on ticks, for a record that counts the ticks and turns of the rounds so far
   abbrev pub ShowsTicks : RunRecord → ℕ → ℕ → Moment → Type 0
-  ShowsTicks run rounds base m = HasGone fits plan gives capacity rounds run.ticks base m → run.turns ≡ turns_at plan m → AreTicked fits plan gives capacity run m
+  ShowsTicks run rounds base m = HasGone fits plan gives capacity rounds run.ticks base m → run.turns ≡ turns_at plan m
+      → AreTicked fits plan gives capacity run m

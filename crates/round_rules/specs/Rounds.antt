@@ -67,7 +67,8 @@ module _ (fits : Check) (plan : Plan) (gives : ℕ → Gives) (capacity : ℕ) w
     pub lacking : (k : ℕ) → k < ticks → LacksOne fits plan gives capacity (due_in plan) (at_tick k m)
     pub fed : (k at : ℕ) → k < ticks → at < plan.setting.n → Knows plan at (turns_at plan (at_cut k m)) (64 * k) (before_tick k (m at))
     pub few_each : (at : ℕ) → at < plan.setting.n → deliveries (events_of (m at)) ≤ 32 * rounds
-    pub before_each : (at : ℕ) (prefix : List Entry) (e : Entry) (back : List Entry) → at < plan.setting.n → m at ≡ prefix ++ e ∷ back → is_delivery e.event ≡ true
+    pub before_each : (at : ℕ) (prefix : List Entry) (e : Entry) (back : List Entry) → at < plan.setting.n → m at ≡ prefix ++ e ∷ back
+        → is_delivery e.event ≡ true
         → Knows plan at (deliveries (events_of prefix) - 31) (64 * (deliveries (events_of prefix) / 32)) prefix
 
   -- The same, and what the nodes know now: what had to be in the logs when the last round began.

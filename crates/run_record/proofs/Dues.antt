@@ -21,7 +21,8 @@ filter_all : {X : Type 0} (xs : List X) → filter (λ x. true) xs ≡ xs
 filter_all [] = refl
 filter_all (x ∷ xs) = rw (filter_all xs) refl
 
-pub narrow_more : (earlier : Option (List Tx)) (list : List Tx) (others : List (List Tx)) → narrowed_by_all earlier (list ∷ others) ≡ narrowed_by_all (Some (narrowed earlier list)) others
+pub narrow_more : (earlier : Option (List Tx)) (list : List Tx) (others : List (List Tx))
+    → narrowed_by_all earlier (list ∷ others) ≡ narrowed_by_all (Some (narrowed earlier list)) others
 narrow_more None list others = refl
 narrow_more (Some earlier) list others = filter_both (λ tx. holds tx list) (λ tx. list_all (holds tx) others) earlier
 

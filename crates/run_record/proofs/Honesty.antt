@@ -11,7 +11,8 @@ use Rattle.quorum_cert.proofs.Dropped.{drop_found}
 
 module _ {X : Type 0} (honest : ℕ → Bool) (xs : List X) where
   -- what is left from a replica on is its item, and what is left from the next one on
-  pub honest_walk : (k : ℕ) → honest_items honest k (drop k xs) ≡ option_to_list (option_map (λ (x : X). (k, x)) (honest_item honest xs k)) ++ honest_items honest (k + 1) (drop (k + 1) xs)
+  pub honest_walk : (k : ℕ) → honest_items honest k (drop k xs)
+      ≡ option_to_list (option_map (λ (x : X). (k, x)) (honest_item honest xs k)) ++ honest_items honest (k + 1) (drop (k + 1) xs)
   honest_walk k = elim (slice_get_cases xs k).1 [
     | inl w ↦ elim (cases_Bool (honest k)) [
       | inl does ↦ rw (drop_found xs k w.0 w.2, w.2, does) refl
@@ -30,5 +31,6 @@ honest_after n faulty k (x ∷ xs) from =
     let none : nat_lt k n ≡ false = grind (arith, nat_tests) in
     rw none (honest_after n faulty (k + 1) xs (omega arith))
 
-pub honest_skip : {X : Type 0} (honest : ℕ → Bool) (xs : List X) (k : ℕ) → honest k ≡ false → honest_items honest k (drop k xs) ≡ honest_items honest (k + 1) (drop (k + 1) xs)
+pub honest_skip : {X : Type 0} (honest : ℕ → Bool) (xs : List X) (k : ℕ) → honest k ≡ false
+    → honest_items honest k (drop k xs) ≡ honest_items honest (k + 1) (drop (k + 1) xs)
 honest_skip honest xs k fails = honest_walk honest xs k ∙ rw fails refl

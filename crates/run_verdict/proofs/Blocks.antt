@@ -70,7 +70,8 @@ digest_found (r ∷ rs) b has =
       | inl same ↦ rw same refl
       | inr other ↦ elim (or_cases (block_eq r.block b) (has_block rs b) has) [
         | inl is ↦
-            let same : digest_eq (block_digest r.block) (block_digest b) ≡ true = (digest_eq_decides (block_digest r.block) (block_digest b)).1 (ap block_digest ((block_eq_decides r.block b).0 is)) in
+            let same : digest_eq (block_digest r.block) (block_digest b) ≡ true =
+            (digest_eq_decides (block_digest r.block) (block_digest b)).1 (ap block_digest ((block_eq_decides r.block b).0 is)) in
             cc
         | inr later ↦ rw other (digest_found rs b later)
       ]
@@ -103,7 +104,8 @@ collides_none (r ∷ rs) b apart =
 
     reported : digest_eq (block_digest r.block) (block_digest b) ≡ true → block_eq r.block b ≡ true
     reported same =
-        (block_eq_decides r.block b).1 (apart r.block (or_left (block_eq r.block r.block) (has_block rs r.block) itself) ((digest_eq_decides (block_digest r.block) (block_digest b)).0 same))
+        (block_eq_decides r.block b).1 (apart r.block (or_left (block_eq r.block r.block) (has_block rs r.block) itself)
+        ((digest_eq_decides (block_digest r.block) (block_digest b)).0 same))
 
     both : (x y : Bool) → (y ≡ true → x ≡ true) → (not x && y) ≡ false
     both true y same = refl
@@ -117,7 +119,8 @@ collides_none (r ∷ rs) b apart =
 pub first_more : (before : List Received) (r : Received) (d : Digest)
     → first_with (before ++ r ∷ []) d ≡ option_or (first_with before d) (cond (digest_eq (block_digest r.block) d) (Some (place_of r)) None)
 first_more before r d =
-    rw (find-append (λ x. digest_eq (block_digest x.block) d) before (r ∷ [])) (mapped (find (λ x. digest_eq (block_digest x.block) d) before) (digest_eq (block_digest r.block) d))
+    rw (find-append (λ x. digest_eq (block_digest x.block) d) before (r ∷ []))
+    (mapped (find (λ x. digest_eq (block_digest x.block) d) before) (digest_eq (block_digest r.block) d))
   where
     mapped : (o : Option Received) (here : Bool)
         → option_map place_of (option_or o (cond here (Some r) None)) ≡ option_or (option_map place_of o) (cond here (Some (place_of r)) None)

@@ -27,7 +27,8 @@ collides_shows a b holds =
 collides_holds : (a b : Block) → a ≢ b → block_digest a ≡ block_digest b → collides a b ≡ true
 collides_holds a b different same =
     let other : block_eq a b ≡ false = false_from_ne_true (block_eq a b) (λ is. different ((block_eq_decides a b).0 is)) in
-    and_from (not (block_eq a b)) (digest_eq (block_digest a) (block_digest b)) (not_from_false (block_eq a b) other) ((digest_eq_decides (block_digest a) (block_digest b)).1 same)
+    and_from (not (block_eq a b)) (digest_eq (block_digest a) (block_digest b)) (not_from_false (block_eq a b) other)
+    ((digest_eq_decides (block_digest a) (block_digest b)).1 same)
 
 same_block : (a b : Block) → collides a b ≡ false → block_digest a ≡ block_digest b → a ≡ b
 same_block a b none same =
@@ -78,7 +79,8 @@ clean_more before r clean joined = record {
     it a (inl is) = is
     it a (inr never) = absurd never
 
-    apart : (a b : Received) → Among a before ⊎ Among a (r ∷ []) → Among b before ⊎ Among b (r ∷ []) → block_digest a.block ≡ block_digest b.block → a.block ≡ b.block
+    apart : (a b : Received) → Among a before ⊎ Among a (r ∷ []) → Among b before ⊎ Among b (r ∷ [])
+        → block_digest a.block ≡ block_digest b.block → a.block ≡ b.block
     apart a b (inl first) (inl second) same = clean.apart a b first second same
     apart a b (inl first) (inr here) same = let is = it b here in rw (← is) (joined.apart a first (rw (← is) at same))
     apart a b (inr here) (inl second) same = let is = it a here in rw (← is) (sym (joined.apart b second (sym (rw (← is) at same))))
@@ -103,7 +105,8 @@ unfolding collision_from
 first_reported before [] reported found = cc
 first_reported before (r ∷ rs) reported found = by_answer (collision_with before r) refl (λ rest. first_reported (before ++ r ∷ []) rs reported rest)
   where
-    by_answer : (o : Option CollidedAt) → collision_with before r ≡ o → (collision_from (before ++ r ∷ []) rs ≡ Some reported → Reported (before ++ r ∷ []) rs reported) → Reported before (r ∷ rs) reported
+    by_answer : (o : Option CollidedAt) → collision_with before r ≡ o
+        → (collision_from (before ++ r ∷ []) rs ≡ Some reported → Reported (before ++ r ∷ []) rs reported) → Reported before (r ∷ rs) reported
     by_answer (Some other) is next = record {
       first = [];
       block = r;
@@ -162,12 +165,14 @@ module _ (run : RunRecord) where
     block_received : IsReceived run t.block
     block_received = is_received t.block (among_second t.block t.first (t.block ∷ t.last) (inl refl))
 
-    with_earlier : (e : Received) → find (λ x. collides x.block t.block.block) t.first ≡ Some e → IsReportedOf run t.block (with_first t.block e) (Some (place_of t.block))
+    with_earlier : (e : Received) → find (λ x. collides x.block t.block.block) t.first ≡ Some e
+        → IsReportedOf run t.block (with_first t.block e) (Some (place_of t.block))
     with_earlier e found =
         let pass = first_pass (λ x. collides x.block t.block.block) t.first e found in
         let among : Among e t.first = rw pass.split (among_second e pass.before (e ∷ pass.following) (inl refl)) in
         let parts = collides_shows e.block t.block.block pass.passes in
-        let all : t.first ++ t.block ∷ t.last ≡ pass.before ++ (e ∷ (pass.following ++ t.block ∷ t.last)) = ap (λ xs. xs ++ t.block ∷ t.last) pass.split ∙ append_assoc pass.before (e ∷ pass.following) (t.block ∷ t.last) in (
+        let all : t.first ++ t.block ∷ t.last ≡ pass.before ++ (e ∷ (pass.following ++ t.block ∷ t.last)) =
+        ap (λ xs. xs ++ t.block ∷ t.last) pass.split ∙ append_assoc pass.before (e ∷ pass.following) (t.block ∷ t.last) in (
           refl,
           (
             e,
@@ -180,7 +185,8 @@ module _ (run : RunRecord) where
             },
             refl,
             (λ other earlier c.
-                let before : Among other pass.before = before_earlier pass.before e (pass.following ++ t.block ∷ t.last) (rw all at rises) other (rw all at (within other c.one)) earlier in
+                let before : Among other pass.before = before_earlier pass.before e (pass.following ++ t.block ∷ t.last)
+                (rw all at rises) other (rw all at (within other c.one)) earlier in
                 let fails = pass.fail other before in
                 let passes = collides_holds other.block t.block.block c.different c.same_digest in
                 cc),
@@ -191,7 +197,8 @@ module _ (run : RunRecord) where
     unfolding collision_with
     reported_is = by_digest (is_zero t.block.block) refl
       where
-        by_found : (o : Option Received) → find (λ x. collides x.block t.block.block) t.first ≡ o → option_map (with_first t.block) o ≡ Some reported → IsReportedOf run t.block reported reported.second
+        by_found : (o : Option Received) → find (λ x. collides x.block t.block.block) t.first ≡ o
+            → option_map (with_first t.block) o ≡ Some reported → IsReportedOf run t.block reported reported.second
         by_found None none is = cc
         by_found (Some e) found is =
             let same : with_first t.block e ≡ reported = cc in
@@ -199,7 +206,8 @@ module _ (run : RunRecord) where
 
         by_digest : (b : Bool) → is_zero t.block.block ≡ b → IsReportedOf run t.block reported reported.second
         by_digest true zero =
-            let same : record { first = place_of t.block; second = None } ≡ reported = one (record { first = place_of t.block; second = None }) (rw zero at t.shows) in
+            let same : record { first = place_of t.block; second = None } ≡ reported =
+            one (record { first = place_of t.block; second = None }) (rw zero at t.shows) in
             subst (λ c. IsReportedOf run t.block c c.second) same
             (record { received = block_received; zero = (digest_eq_decides (block_digest t.block.block) first_digest).0 zero }, refl)
           where
@@ -215,7 +223,8 @@ module _ (run : RunRecord) where
           is_reported = reported_is;
           apart = λ a b first second c.
               c.different
-              (clean.apart a b (before_earlier t.first t.block t.last rises a (within a c.one) first) (before_earlier t.first t.block t.last rises b (within b c.other) second) c.same_digest);
+              (clean.apart a b (before_earlier t.first t.block t.last rises a (within a c.one) first)
+              (before_earlier t.first t.block t.last rises b (within b c.other) second) c.same_digest);
           above = λ r earlier z. clean.above r (before_earlier t.first t.block t.last rises r (within r z.received) earlier) z.zero;
         }
 
@@ -245,7 +254,8 @@ module _ (run : RunRecord) where
     (λ r is zero. never (inr (r, record { received = is; zero = zero }))),
   )
     where
-      by_block : (a b : Received) → IsReceived run a → IsReceived run b → block_digest a.block ≡ block_digest b.block → (equal : Bool) → block_eq a.block b.block ≡ equal → a.block ≡ b.block
+      by_block : (a b : Received) → IsReceived run a → IsReceived run b → block_digest a.block ≡ block_digest b.block → (equal : Bool)
+          → block_eq a.block b.block ≡ equal → a.block ≡ b.block
       by_block a b first second same true is = (block_eq_decides a.block b.block).0 is
       by_block a b first second same false is =
           absurd

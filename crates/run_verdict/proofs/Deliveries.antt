@@ -32,7 +32,8 @@ carried receiver number [] r within = absurd within
 carried receiver number (e ∷ es) r within = by_block (delivered_block e) refl within (λ rest. carried receiver (number + 1) es r rest)
   where
     later : Carried receiver (number + 1) es r → Carried receiver number (e ∷ es) r
-    later b = record { place = suc b.place; entry = b.entry; is = b.is; receiver_is = b.receiver_is; entry_is = omega (arith, b.entry_is); block_is = b.block_is }
+    later b =
+        record { place = suc b.place; entry = b.entry; is = b.is; receiver_is = b.receiver_is; entry_is = omega (arith, b.entry_is); block_is = b.block_is }
 
     by_block : (o : Option Block) → delivered_block e ≡ o → Among r (received_from receiver number (e ∷ es))
         → (Among r (received_from receiver (number + 1) es) → Carried receiver (number + 1) es r) → Carried receiver number (e ∷ es) r
@@ -49,7 +50,8 @@ carried receiver number (e ∷ es) r within = by_block (delivered_block e) refl 
       | inr following ↦ later (next following)
     ]
       where
-        split : Among r (received receiver number block ∷ received_from receiver (number + 1) es) → (received receiver number block ≡ r) ⊎ Among r (received_from receiver (number + 1) es)
+        split : Among r (received receiver number block ∷ received_from receiver (number + 1) es)
+            → (received receiver number block ≡ r) ⊎ Among r (received_from receiver (number + 1) es)
         split either = either
 
 brings : (receiver number : ℕ) (entries : List Entry) (r : Received) → Carried receiver number entries r → Among r (received_from receiver number entries)
@@ -88,7 +90,8 @@ record Sent (honest : ℕ → Bool) (replica : ℕ) (journals : List Journal) (r
   honest_is : (m : ℕ) → m ≡ replica + place → honest m ≡ true
   within : (m : ℕ) → m ≡ replica + place → Among r (received_in (m, journal))
 
-sent : (honest : ℕ → Bool) (replica : ℕ) (journals : List Journal) (r : Received) → Among r (flat_map received_in (honest_items honest replica journals)) → Sent honest replica journals r
+sent : (honest : ℕ → Bool) (replica : ℕ) (journals : List Journal) (r : Received)
+    → Among r (flat_map received_in (honest_items honest replica journals)) → Sent honest replica journals r
 sent honest replica [] r within = absurd within
 sent honest replica (j ∷ js) r within = elim (cases_Bool (honest replica)) [
   | inl does ↦ elim (among_either r (received_in (replica, j)) (flat_map received_in (honest_items honest (replica + 1) js)) (rw does at within)) [
@@ -105,9 +108,17 @@ sent honest replica (j ∷ js) r within = elim (cases_Bool (honest replica)) [
 ]
   where
     later : Sent honest (replica + 1) js r → Sent honest replica (j ∷ js) r
-    later s = record { place = suc s.place; journal = s.journal; is = s.is; honest_is = λ m is. s.honest_is m (omega (arith, is)); within = λ m is. s.within m (omega (arith, is)) }
+    later s =
+        record {
+          place = suc s.place;
+          journal = s.journal;
+          is = s.is;
+          honest_is = λ m is. s.honest_is m (omega (arith, is));
+          within = λ m is. s.within m (omega (arith, is));
+        }
 
-sends : (honest : ℕ → Bool) (journal : Journal) (r : Received) (replica : ℕ) (journals : List Journal) (place m : ℕ) → slice_get journals place ≡ Some journal → m ≡ replica + place → honest m ≡ true
+sends : (honest : ℕ → Bool) (journal : Journal) (r : Received) (replica : ℕ) (journals : List Journal) (place m : ℕ)
+    → slice_get journals place ≡ Some journal → m ≡ replica + place → honest m ≡ true
     → Among r (received_in (m, journal)) → Among r (flat_map received_in (honest_items honest replica journals))
 sends honest journal r replica [] place m is number does within = cc
 sends honest journal r replica (j ∷ js) zero m is number does within =
@@ -117,7 +128,8 @@ sends honest journal r replica (j ∷ js) zero m is number does within =
 sends honest journal r replica (j ∷ js) (suc place) m is number does within =
     following (honest replica) refl (sends honest journal r (replica + 1) js place m is (omega arith) does within)
   where
-    following : (b : Bool) → honest replica ≡ b → Among r (flat_map received_in (honest_items honest (replica + 1) js)) → Among r (flat_map received_in (honest_items honest replica (j ∷ js)))
+    following : (b : Bool) → honest replica ≡ b → Among r (flat_map received_in (honest_items honest (replica + 1) js))
+        → Among r (flat_map received_in (honest_items honest replica (j ∷ js)))
     following true does rest = rw does (among_second r (received_in (replica, j)) (flat_map received_in (honest_items honest (replica + 1) js)) rest)
     following false fails rest = rw fails rest
 
@@ -132,9 +144,11 @@ journals_rise honest replica (j ∷ js) = by_replica (honest replica) refl (jour
         let c = carried (replica + 1 + s.place) 0 s.journal.entries y (s.within (replica + 1 + s.place) refl) in
         inl (omega (arith, b.receiver_is, c.receiver_is))
 
-    by_replica : (b : Bool) → honest replica ≡ b → Rises (flat_map received_in (honest_items honest (replica + 1) js)) → Rises (flat_map received_in (honest_items honest replica (j ∷ js)))
+    by_replica : (b : Bool) → honest replica ≡ b → Rises (flat_map received_in (honest_items honest (replica + 1) js))
+        → Rises (flat_map received_in (honest_items honest replica (j ∷ js)))
     by_replica true does rest =
-        rw does (rises_joined (received_in (replica, j)) (flat_map received_in (honest_items honest (replica + 1) js)) (from_rises replica 0 j.entries) rest across)
+        rw does (rises_joined (received_in (replica, j)) (flat_map received_in (honest_items honest (replica + 1) js))
+        (from_rises replica 0 j.entries) rest across)
     by_replica false fails rest = rw fails rest
 
 -- ---- all that were received in a run
@@ -185,4 +199,5 @@ module _ (run : RunRecord) where
   received_holds r is =
       let block : delivered_block is.entry ≡ Some r.block = rw (delivers_holds is.entry is.message is.delivers) is.brings in
       sends (honest_in run) is.has.journal r 0 run.journals r.receiver r.receiver is.has.journal_is (omega arith) (honest_holds run r.receiver is.has.honest)
-      (brings r.receiver 0 is.has.journal.entries r (record { place = r.entry; entry = is.entry; is = is.has.entry_is; receiver_is = refl; entry_is = omega arith; block_is = block }))
+      (brings r.receiver 0 is.has.journal.entries r
+      (record { place = r.entry; entry = is.entry; is = is.has.entry_is; receiver_is = refl; entry_is = omega arith; block_is = block }))

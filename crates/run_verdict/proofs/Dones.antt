@@ -44,12 +44,14 @@ final_shows batches tx some =
     (found.0, contains_holds batches found.0 found.1, contains_holds found.0 tx (holds_shows tx found.0 found.2))
 
 final_holds : (batches : List (List Tx)) (tx : Tx) → IsFinal batches tx → is_finalised batches tx ≡ true
-final_holds batches tx final = any_holds (holds tx) batches final.0 (contains_shows batches final.0 final.1) (holds_holds tx final.0 (contains_shows final.0 tx final.2))
+final_holds batches tx final = any_holds (holds tx) batches final.0 (contains_shows batches final.0 final.1)
+    (holds_holds tx final.0 (contains_shows final.0 tx final.2))
 
 -- the replicas by their numbers
 numbered : (n replica : ℕ) → replica < n → Among replica (range_with_len 0 n)
 numbered n replica below =
-    contains_shows (range_with_len 0 n) replica (replica, (omega (arith, length-range_with_len 0 n)), get_or-range_with_len 0 n replica replica below ∙ (omega arith))
+    contains_shows (range_with_len 0 n) replica
+    (replica, (omega (arith, length-range_with_len 0 n)), get_or-range_with_len 0 n replica replica below ∙ (omega arith))
 
 numbered_below : (n replica : ℕ) → Among replica (range_with_len 0 n) → replica < n
 numbered_below n replica within =
@@ -58,7 +60,8 @@ numbered_below n replica within =
     omega (arith, place, at.2, get_or-range_with_len 0 n at.0 replica place)
 
 pub one_more_lists : (run : RunRecord) (due : List Tx) (at n : ℕ) → at < n
-    → all_list run due (range_with_len at (n - at)) ≡ ((is_among run.faulty at || lists_all run due at) && all_list run due (range_with_len (at + 1) (n - (at + 1))))
+    → all_list run due (range_with_len at (n - at))
+    ≡ ((is_among run.faulty at || lists_all run due at) && all_list run due (range_with_len (at + 1) (n - (at + 1))))
 one_more_lists run due at n h =
     let e : n - at ≡ suc (n - (at + 1)) = omega arith in
     ap (λ k. all_list run due (range_with_len at k)) e
@@ -81,7 +84,8 @@ module _ (run : RunRecord) where
       let one = map_shows (λ (item : ℕ × List Tx). item.1) items all.some.0 all.some.1 in
       record {
         some = (one.0.0, one.0.1, owned_shows run.arrivals one.0 one.1);
-        every = λ replica list is. contains_holds list tx (all.every list (map_holds (λ (item : ℕ × List Tx). item.1) items (replica, list) (owned_holds run.arrivals replica list is)));
+        every = λ replica list is. contains_holds list tx
+            (all.every list (map_holds (λ (item : ℕ × List Tx). item.1) items (replica, list) (owned_holds run.arrivals replica list is)));
       }
 
   due_holds : (tx : Tx) → IsDue run tx → Among tx (due_of run.setting.n run.faulty run.arrivals)
@@ -89,7 +93,8 @@ module _ (run : RunRecord) where
       let items = honest_items (honest_in run) 0 run.arrivals in
       in_all_holds (map (λ item. item.1) items) tx
       (record {
-        some = (due.some.1, map_holds (λ (item : ℕ × List Tx). item.1) items (due.some.0, due.some.1) (owned_holds run.arrivals due.some.0 due.some.1 due.some.2));
+        some =
+            (due.some.1, map_holds (λ (item : ℕ × List Tx). item.1) items (due.some.0, due.some.1) (owned_holds run.arrivals due.some.0 due.some.1 due.some.2));
         every = λ list within.
             let one = map_shows (λ (item : ℕ × List Tx). item.1) items list within in
             let is = owned_shows run.arrivals one.0 one.1 in
@@ -108,7 +113,8 @@ module _ (run : RunRecord) where
   lists : (replica : ℕ) → HasFinished run replica → lists_all run (due_of run.setting.n run.faulty run.arrivals) replica ≡ true
   lists replica has =
       rw has.is
-      (all_holds (is_finalised has.batches) (due_of run.setting.n run.faulty run.arrivals) (λ tx due. final_holds has.batches tx (has.every tx (due_shows tx due))))
+      (all_holds (is_finalised has.batches) (due_of run.setting.n run.faulty run.arrivals)
+      (λ tx due. final_holds has.batches tx (has.every tx (due_shows tx due))))
 
   is_past : ℕ → Bool
   is_past replica = is_among run.faulty replica || lists_all run (due_of run.setting.n run.faulty run.arrivals) replica
@@ -117,7 +123,8 @@ module _ (run : RunRecord) where
   unfolding is_record_done is_past
   done_shows done = λ replica honest.
       let due = due_of run.setting.n run.faulty run.arrivals in
-      let one : (is_among run.faulty replica || lists_all run due replica) ≡ true = all_shows is_past (range_with_len 0 run.setting.n) done replica (numbered run.setting.n replica honest.below) in
+      let one : (is_among run.faulty replica || lists_all run due replica) ≡ true =
+      all_shows is_past (range_with_len 0 run.setting.n) done replica (numbered run.setting.n replica honest.below) in
       finished replica (slice_get run.batches replica) refl (rw honest.correct at one)
 
   pub done_holds : IsDone run → is_record_done run ≡ true
@@ -127,5 +134,6 @@ module _ (run : RunRecord) where
       all_holds is_past (range_with_len 0 run.setting.n)
       (λ replica within. elim (cases_Bool (is_among run.faulty replica)) [
         | inl faulty ↦ or_left (is_among run.faulty replica) (lists_all run due replica) faulty
-        | inr correct ↦ or_right (is_among run.faulty replica) (lists_all run due replica) (lists replica (done replica (record { below = numbered_below run.setting.n replica within; correct = correct })))
+        | inr correct ↦ or_right (is_among run.faulty replica) (lists_all run due replica)
+            (lists replica (done replica (record { below = numbered_below run.setting.n replica within; correct = correct })))
       ])

@@ -39,12 +39,14 @@ module _ (check : Check) (run : RunRecord) where
       cc
 
   -- none in the parts, an entry, a journal, and the run, says that there is none at a place
-  none_in_parts : (receiver entry : ℕ) (parts : List Part) → forged_from check run receiver entry 0 parts ≡ None → (number : ℕ) (p : Part) → slice_get parts number ≡ Some p → ¬ IsForgedPart check run p
+  none_in_parts : (receiver entry : ℕ) (parts : List Part) → forged_from check run receiver entry 0 parts ≡ None → (number : ℕ) (p : Part)
+      → slice_get parts number ≡ Some p → ¬ IsForgedPart check run p
   unfolding forged_from
   none_in_parts receiver entry parts none number p stands = λ forged.
       part_reported receiver entry number p forged (first_nothing (forged_part check run receiver entry) 0 parts none number number p stands (omega arith))
 
-  none_in_entry : (receiver number : ℕ) (entry : Entry) → forged_in_entry check run receiver (number, entry) ≡ None → (message : MessageView) → Delivers entry message
+  none_in_entry : (receiver number : ℕ) (entry : Entry) → forged_in_entry check run receiver (number, entry) ≡ None
+      → (message : MessageView) → Delivers entry message
       → (part : ℕ) (p : Part) → slice_get (parts_of message) part ≡ Some p → ¬ IsForgedPart check run p
   unfolding forged_in_entry
   none_in_entry receiver number entry none message delivers part p stands =
@@ -59,15 +61,18 @@ module _ (check : Check) (run : RunRecord) where
 
   -- what is at a place of a forged seal is told
   entry_reported : (at : ForgedAt) (forged : IsForgedAt check run at) → forged_in_entry check run at.receiver (at.entry, forged.entry) ≡ None → ⊥
-  entry_reported at forged none = none_in_entry at.receiver at.entry forged.entry none forged.message forged.delivers at.part forged.part forged.stands forged.forged
+  entry_reported at forged none =
+      none_in_entry at.receiver at.entry forged.entry none forged.message forged.delivers at.part forged.part forged.stands forged.forged
 
   journal_reported : (at : ForgedAt) (forged : IsForgedAt check run at) → forged_in_journal check run (at.receiver, forged.has.journal) ≡ None → ⊥
   journal_reported at forged none = entry_reported at forged (none_in_journal at.receiver forged.has.journal none at.entry forged.entry forged.has.entry_is)
 
-  replica_reported : (at : ForgedAt) (forged : IsForgedAt check run at) → honest_answer (honest_in run) (forged_in_journal check run) (at.receiver, forged.has.journal) ≡ None → ⊥
+  replica_reported : (at : ForgedAt) (forged : IsForgedAt check run at)
+      → honest_answer (honest_in run) (forged_in_journal check run) (at.receiver, forged.has.journal) ≡ None → ⊥
   replica_reported at forged none =
       journal_reported at forged
-      (answer_none (honest_in run at.receiver) (forged_in_journal check run (at.receiver, forged.has.journal)) (honest_holds run at.receiver forged.has.honest) none)
+      (answer_none (honest_in run at.receiver) (forged_in_journal check run (at.receiver, forged.has.journal))
+      (honest_holds run at.receiver forged.has.honest) none)
 
   pub no_place : first_forged_of check run ≡ None → ¬ IsForged check run
   unfolding first_forged_of
@@ -75,7 +80,8 @@ module _ (check : Check) (run : RunRecord) where
       let at = place.0 in
       let forged = place.1 in
       let walk = sym (first_honest (honest_in run) (forged_in_journal check run) 0 run.journals) ∙ none in
-      replica_reported at forged (first_nothing (honest_answer (honest_in run) (forged_in_journal check run)) 0 run.journals walk at.receiver at.receiver forged.has.journal forged.has.journal_is (omega arith))
+      replica_reported at forged (first_nothing (honest_answer (honest_in run) (forged_in_journal check run)) 0 run.journals walk
+      at.receiver at.receiver forged.has.journal forged.has.journal_is (omega arith))
 
   -- what is told is a forged part of a message that was delivered
   record PartFound (receiver number : ℕ) (entry : Entry) (reported : ForgedAt) : Type 0 where
@@ -93,7 +99,9 @@ module _ (check : Check) (run : RunRecord) where
   unfolding forged_from
   in_message receiver number entry reported message is found =
       let f = first_found (forged_part check run receiver (counted number)) 0 (parts_of message) reported found in
-      let answer = answer_reported (is_forged check run f.item) (Some (record { receiver = receiver; entry = counted number; part = f.place; signer = f.item.signer })) reported (f.gives f.place (omega arith)) in
+      let answer = answer_reported (is_forged check run f.item)
+      (Some (record { receiver = receiver; entry = counted number; part = f.place; signer = f.item.signer })) reported
+      (f.gives f.place (omega arith)) in
       record {
         message = message;
         delivers = delivers_shows entry message is;
@@ -101,22 +109,26 @@ module _ (check : Check) (run : RunRecord) where
         part = f.item;
         stands = f.is;
         forged = forged_shows check run f.item answer.0;
-        is_reported = one_only reported (record { receiver = receiver; entry = counted number; part = f.place; signer = f.item.signer }) (Some reported) refl (sym answer.1);
+        is_reported = one_only reported (record { receiver = receiver; entry = counted number; part = f.place; signer = f.item.signer })
+            (Some reported) refl (sym answer.1);
         earlier = λ j p below there forged. part_reported receiver (counted number) j p forged (f.earlier j j p below there (omega arith));
       }
 
-  in_entry : (receiver number : ℕ) (entry : Entry) (reported : ForgedAt) → forged_in_entry check run receiver (number, entry) ≡ Some reported → PartFound receiver number entry reported
+  in_entry : (receiver number : ℕ) (entry : Entry) (reported : ForgedAt)
+      → forged_in_entry check run receiver (number, entry) ≡ Some reported → PartFound receiver number entry reported
   unfolding forged_in_entry forged_from
   in_entry receiver number entry reported found = by_message (delivered entry) refl (found)
     where
-      by_message : (o : Option MessageView) → delivered entry ≡ o → forged_from check run receiver (counted number) 0 (parts_in o) ≡ Some reported → PartFound receiver number entry reported
+      by_message : (o : Option MessageView) → delivered entry ≡ o
+          → forged_from check run receiver (counted number) 0 (parts_in o) ≡ Some reported → PartFound receiver number entry reported
       by_message None is found = let none : None ≡ Some reported = found in cc
       by_message (Some message) is found = in_message receiver number entry reported message is found
 
   pub first_is : (reported : ForgedAt) → first_forged_of check run ≡ Some reported → IsFirstForged check run reported
   unfolding first_forged_of forged_in_journal
   first_is reported found =
-      let j = first_found (honest_answer (honest_in run) (forged_in_journal check run)) 0 run.journals reported (sym (first_honest (honest_in run) (forged_in_journal check run) 0 run.journals) ∙ found) in
+      let j = first_found (honest_answer (honest_in run) (forged_in_journal check run)) 0 run.journals reported
+      (sym (first_honest (honest_in run) (forged_in_journal check run) 0 run.journals) ∙ found) in
       let answer = answer_reported (honest_in run j.place) (forged_in_journal check run (j.place, j.item)) reported (j.gives j.place (omega arith)) in
       let e = first_found (forged_in_entry check run j.place) 0 j.item.entries reported answer.1 in
       let p = in_entry j.place e.place e.item reported (e.gives e.place (omega arith)) in
@@ -138,14 +150,17 @@ module _ (check : Check) (run : RunRecord) where
             elim before [
               | inl below ↦ replica_reported other forged (j.earlier other.receiver other.receiver forged.has.journal below forged.has.journal_is (omega arith))
               | inr following ↦
-                  let journal : forged.has.journal ≡ j.item = same_item run.journals other.receiver j.place forged.has.journal j.item following.0 forged.has.journal_is j.is in
+                  let journal : forged.has.journal ≡ j.item =
+                  same_item run.journals other.receiver j.place forged.has.journal j.item following.0 forged.has.journal_is j.is in
                   let there : slice_get j.item.entries other.entry ≡ Some forged.entry = rw journal at forged.has.entry_is in
                   elim following.1 [
                     | inl below ↦ entry_reported other forged (rw following.0 (e.earlier other.entry other.entry forged.entry below there (omega arith)))
                     | inr inside ↦
                         let entry : forged.entry ≡ e.item = same_item j.item.entries other.entry e.place forged.entry e.item inside.0 there e.is in
                         let message : forged.message ≡ p.message =
-                        one_only forged.message p.message (delivered e.item) (rw entry at (delivers_holds forged.entry forged.message forged.delivers)) (delivers_holds e.item p.message p.delivers) in
+                        one_only forged.message p.message
+                        (delivered e.item) (rw entry at (delivers_holds forged.entry forged.message forged.delivers))
+                        (delivers_holds e.item p.message p.delivers) in
                         p.earlier other.part forged.part inside.1 (rw message at forged.stands) forged.forged
                   ]
             ];

@@ -110,7 +110,8 @@ items_show {X} honest n (x ∷ xs) item within = elim (cases_Bool (honest n)) [
     later : Owned honest (n + 1) xs item → Owned honest n (x ∷ xs) item
     later o = record { place = suc o.place; replica_is = omega (arith, o.replica_is); honest_is = o.honest_is; is = o.is }
 
-pub items_hold : {X : Type 0} (honest : ℕ → Bool) (n : ℕ) (xs : List X) (place m : ℕ) (x : X) → slice_get xs place ≡ Some x → m ≡ n + place → honest m ≡ true → Among (m, x) (honest_items honest n xs)
+pub items_hold : {X : Type 0} (honest : ℕ → Bool) (n : ℕ) (xs : List X) (place m : ℕ) (x : X) → slice_get xs place ≡ Some x → m ≡ n + place
+    → honest m ≡ true → Among (m, x) (honest_items honest n xs)
 items_hold honest n [] place m x is number does = cc
 items_hold honest n (y ∷ ys) zero m x is number does =
     let same : m ≡ n = omega arith in

@@ -50,7 +50,8 @@ first_found {X} {Y} f n (x ∷ xs) y found = by_answer (f (n, x)) refl (λ rest.
 pub first_nothing : {X Y : Type 0} (f : ℕ × X → Option Y) (n : ℕ) (xs : List X) → first_of f (enumerate_from n xs) ≡ None
     → (j m : ℕ) (x : X) → slice_get xs j ≡ Some x → m ≡ n + j → f (m, x) ≡ None
 first_nothing f n [] none j m x there is = cc
-first_nothing {X} {Y} f n (y ∷ ys) none j m x there is = by_place j there is (λ i at number. first_nothing f (n + 1) ys (parts (f (n, y)) (first_of f (enumerate_from (n + 1) ys)) none).1 i m x at number)
+first_nothing {X} {Y} f n (y ∷ ys) none j m x there is = by_place j there is
+    (λ i at number. first_nothing f (n + 1) ys (parts (f (n, y)) (first_of f (enumerate_from (n + 1) ys)) none).1 i m x at number)
   where
     parts : (o p : Option Y) → option_or o p ≡ None → (o ≡ None) × (p ≡ None)
     parts None p none = (refl, none)

@@ -14,7 +14,8 @@ use Rattle.run_verdict.proofs.Walks.{drop_none}
 module _ (check : Check) (run : RunRecord) (receiver entry : ℕ) where
   -- the first one, or one of the others
   forged_cons : (n : ℕ) (p : Part) (ps : List Part)
-      → forged_from check run receiver entry n (p ∷ ps) ≡ option_or (forged_part check run receiver entry (n, p)) (forged_from check run receiver entry (n + 1) ps)
+      → forged_from check run receiver entry n (p ∷ ps)
+      ≡ option_or (forged_part check run receiver entry (n, p)) (forged_from check run receiver entry (n + 1) ps)
   unfolding forged_from
   forged_cons n p ps = refl
 
@@ -26,18 +27,22 @@ module _ (check : Check) (run : RunRecord) (receiver entry : ℕ) where
   forged_one n p = rw (forged_cons n p [], forged_none (n + 1)) (or_none (forged_part check run receiver entry (n, p)))
 
   -- the first one is forged, or the others are searched
-  pub forged_first : (n : ℕ) (p : Part) (ps : List Part) (at : ForgedAt) → forged_part check run receiver entry (n, p) ≡ Some at → Some at ≡ forged_from check run receiver entry n (p ∷ ps)
+  pub forged_first : (n : ℕ) (p : Part) (ps : List Part) (at : ForgedAt) → forged_part check run receiver entry (n, p) ≡ Some at
+      → Some at ≡ forged_from check run receiver entry n (p ∷ ps)
   forged_first n p ps at found = rw (forged_cons n p ps, found) refl
 
-  pub forged_others : (n : ℕ) (p : Part) (ps : List Part) → forged_part check run receiver entry (n, p) ≡ None → forged_from check run receiver entry n (p ∷ ps) ≡ forged_from check run receiver entry (n + 1) ps
+  pub forged_others : (n : ℕ) (p : Part) (ps : List Part) → forged_part check run receiver entry (n, p) ≡ None
+      → forged_from check run receiver entry n (p ∷ ps) ≡ forged_from check run receiver entry (n + 1) ps
   forged_others n p ps none = rw (forged_cons n p ps, none) refl
 
   -- what is found in the first of two lists is found
-  pub forged_prefix : (n : ℕ) (xs ys : List Part) (at : ForgedAt) → forged_from check run receiver entry n xs ≡ Some at → forged_from check run receiver entry n (xs ++ ys) ≡ Some at
+  pub forged_prefix : (n : ℕ) (xs ys : List Part) (at : ForgedAt) → forged_from check run receiver entry n xs ≡ Some at
+      → forged_from check run receiver entry n (xs ++ ys) ≡ Some at
   forged_prefix n [] ys at found = let none = forged_none n in cc
   forged_prefix n (x ∷ xs) ys at found =
       rw (forged_cons n x (xs ++ ys))
-      (here (forged_part check run receiver entry (n, x)) (forged_from check run receiver entry (n + 1) xs) (forged_from check run receiver entry (n + 1) (xs ++ ys)) (rw (forged_cons n x xs) at found) (forged_prefix (n + 1) xs ys at))
+      (here (forged_part check run receiver entry (n, x)) (forged_from check run receiver entry (n + 1) xs)
+      (forged_from check run receiver entry (n + 1) (xs ++ ys)) (rw (forged_cons n x xs) at found) (forged_prefix (n + 1) xs ys at))
     where
       here : (o p q : Option ForgedAt) → option_or o p ≡ Some at → (p ≡ Some at → q ≡ Some at) → option_or o q ≡ Some at
       here None p q found later = later found
@@ -68,7 +73,8 @@ module _ (check : Check) (run : RunRecord) (receiver entry : ℕ) where
 
     -- the steps of a search that goes over the items: it stops at the first answer
     module _ (whole : Option ForgedAt) (so_far : forged_from check run receiver entry n (map part_of (drop k xs)) ≡ whole) where
-      pub forged_stop : (x : X) (answer : Option ForgedAt) → slice_get xs k ≡ Some x → answer ≡ forged_part check run receiver entry (n, part_of x) → is_some answer ≡ true → answer ≡ whole
+      pub forged_stop : (x : X) (answer : Option ForgedAt) → slice_get xs k ≡ Some x
+          → answer ≡ forged_part check run receiver entry (n, part_of x) → is_some answer ≡ true → answer ≡ whole
       forged_stop x answer there is some =
           first_is answer (forged_from check run receiver entry (n + 1) (map part_of (drop (k + 1) xs))) some
           ∙ rw is (sym (forged_next x there)) ∙ so_far
@@ -77,7 +83,8 @@ module _ (check : Check) (run : RunRecord) (receiver entry : ℕ) where
           first_is None p some = cc
           first_is (Some at) p some = refl
 
-      pub forged_go : (m : ℕ) (x : X) (answer : Option ForgedAt) → slice_get xs k ≡ Some x → answer ≡ forged_part check run receiver entry (n, part_of x) → is_some answer ≡ false → m ≡ n + 1
+      pub forged_go : (m : ℕ) (x : X) (answer : Option ForgedAt) → slice_get xs k ≡ Some x
+          → answer ≡ forged_part check run receiver entry (n, part_of x) → is_some answer ≡ false → m ≡ n + 1
           → forged_from check run receiver entry m (map part_of (drop (k + 1) xs)) ≡ whole
       forged_go m x answer there is none next =
           rw next

@@ -15,7 +15,8 @@ use Rattle.run_verdict.specs.Collided.{Received, received, received_from, collis
 use Rattle.run_verdict.specs.Seen.{Knows}
 
 -- what an entry brings, of those that are left
-pub received_some : (receiver k : ℕ) (entries : List Entry) (entry : Entry) (block : Block) → k < length entries → entry ≡ get_or entries k entry → delivered_block entry ≡ Some block
+pub received_some : (receiver k : ℕ) (entries : List Entry) (entry : Entry) (block : Block) → k < length entries
+    → entry ≡ get_or entries k entry → delivered_block entry ≡ Some block
     → received_from receiver k (drop k entries) ≡ (received receiver k block ∷ []) ++ received_from receiver (k + 1) (drop (k + 1) entries)
 unfolding received_from
 received_some receiver k entries entry block within is brings = rw (drop_more entries k entry within, ← is, brings) refl
@@ -35,11 +36,13 @@ unfolding collision_from
 one_block before r = or_none (collision_with before r)
 
 -- some blocks, and then the others
-collision_joined : (before more rest : List Received) → collision_from before (more ++ rest) ≡ option_or (collision_from before more) (collision_from (before ++ more) rest)
+collision_joined : (before more rest : List Received)
+    → collision_from before (more ++ rest) ≡ option_or (collision_from before more) (collision_from (before ++ more) rest)
 unfolding collision_from
 collision_joined before [] rest = ap (λ xs. collision_from xs rest) (sym (append-nil before))
 collision_joined before (r ∷ rs) rest =
-    rw (collision_joined (before ++ r ∷ []) rs rest, append_assoc before (r ∷ []) rs) (either (collision_with before r) (collision_from (before ++ r ∷ []) rs) (collision_from (before ++ (r ∷ rs)) rest))
+    rw (collision_joined (before ++ r ∷ []) rs rest, append_assoc before (r ∷ []) rs)
+    (either (collision_with before r) (collision_from (before ++ r ∷ []) rs) (collision_from (before ++ (r ∷ rs)) rest))
   where
     either : (o p q : Option CollidedAt) → option_or o (option_or p q) ≡ option_or (option_or o p) q
     either None p q = refl
@@ -52,11 +55,14 @@ pub record Stands (before all left : List Received) (set : BTreeSet (Bor (List �
   pub joined : met ++ left ≡ before ++ all
   pub collision : collision_from met left ≡ collision_from before all
 
-pub stands_first : (before all : List Received) (set : BTreeSet (Bor (List ℕ))) (map : BTreeMap Digest (ℕ × ℕ)) → Knows before set map → Stands before all all set map
+pub stands_first : (before all : List Received) (set : BTreeSet (Bor (List ℕ))) (map : BTreeMap Digest (ℕ × ℕ)) → Knows before set map
+    → Stands before all all set map
 stands_first before all set map knows = record { met = before; knows = knows; joined = refl; collision = refl }
 
-module _ (before all left rest more : List Received) (set : BTreeSet (Bor (List ℕ))) (map : BTreeMap Digest (ℕ × ℕ)) (stands : Stands before all left set map) where
-  module _ (answer : Option CollidedAt) (next : left ≡ more ++ rest) (reported : (xs : List Received) → Knows xs set map → answer ≡ collision_from xs more) where
+module _ (before all left rest more : List Received) (set : BTreeSet (Bor (List ℕ))) (map : BTreeMap Digest (ℕ × ℕ))
+    (stands : Stands before all left set map) where
+  module _ (answer : Option CollidedAt) (next : left ≡ more ++ rest)
+      (reported : (xs : List Received) → Knows xs set map → answer ≡ collision_from xs more) where
     parts : collision_from before all ≡ option_or answer (collision_from (stands.met ++ more) rest)
     parts = sym stands.collision ∙ rw (next, reported stands.met stands.knows) (collision_joined stands.met more rest)
 
@@ -80,7 +86,8 @@ module _ (before all left rest more : List Received) (set : BTreeSet (Bor (List 
         if_none None P none holds = holds
         if_none (Some x) P none holds = cc
 
-        second_is : (o : Option CollidedAt) → is_some o ≡ false → collision_from (stands.met ++ more) rest ≡ option_or o (collision_from (stands.met ++ more) rest)
+        second_is : (o : Option CollidedAt) → is_some o ≡ false
+            → collision_from (stands.met ++ more) rest ≡ option_or o (collision_from (stands.met ++ more) rest)
         second_is None none = refl
         second_is (Some x) none = cc
 

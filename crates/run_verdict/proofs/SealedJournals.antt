@@ -19,7 +19,8 @@ one_within p [] = refl
 one_within p (x ∷ xs) = elim (cases_Bool (p x)) [
   | inl passes ↦ rw passes (lt-ltb 0 (length (x ∷ xs)) (omega arith))
   | inr fails ↦
-      let next : nat_lt (1 + position_or_len p xs) (length (x ∷ xs)) ≡ nat_lt (position_or_len p xs) (length xs) = one_more (position_or_len p xs) (length xs) in
+      let next : nat_lt (1 + position_or_len p xs) (length (x ∷ xs)) ≡ nat_lt (position_or_len p xs) (length xs) =
+      one_more (position_or_len p xs) (length xs) in
       rw (fails, next) (one_within p xs)
 ]
   where
@@ -32,7 +33,8 @@ position_any p xs = some_if (nat_lt (position_or_len p xs) (length xs)) (positio
 
 -- an entry that is found after a place or before it, is in the journal
 pub sealed_in_parts : (journals : List Journal) (signer : ℕ) (statement : List ℕ) (journal : Journal) (k : ℕ) → slice_get journals signer ≡ Some journal
-    → was_sealed journals signer statement ≡ (list_any (has_sealed statement) (take k journal.entries) || list_any (has_sealed statement) (drop k journal.entries))
+    → was_sealed journals signer statement
+    ≡ (list_any (has_sealed statement) (take k journal.entries) || list_any (has_sealed statement) (drop k journal.entries))
 sealed_in_parts journals signer statement journal k there =
     rw (there, ← list_any-append (has_sealed statement) (take k journal.entries) (drop k journal.entries), take-append-drop k journal.entries) refl
 

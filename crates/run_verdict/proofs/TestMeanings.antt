@@ -31,7 +31,8 @@ honest_shows run replica holds =
 
 pub honest_holds : (run : RunRecord) (replica : ℕ) → IsHonest run replica → honest_in run replica ≡ true
 honest_holds run replica honest =
-    and_from (nat_lt replica run.setting.n) (not (is_among run.faulty replica)) (lt-ltb replica run.setting.n honest.below) (not_from_false (is_among run.faulty replica) honest.correct)
+    and_from (nat_lt replica run.setting.n) (not (is_among run.faulty replica)) (lt-ltb replica run.setting.n honest.below)
+    (not_from_false (is_among run.faulty replica) honest.correct)
 
 -- ---- what was delivered
 
@@ -76,7 +77,8 @@ sealed_shows run signer statement holds = by_journal (slice_get run.journals sig
 pub sealed_holds : (run : RunRecord) (signer : ℕ) (statement : List ℕ) → HasSealed run signer statement → was_sealed run.journals signer statement ≡ true
 sealed_holds run signer statement has =
     let itself : bytes_eq statement statement ≡ true = (bytes_decides statement statement).1 refl in
-    let entry : has_sealed statement has.entry ≡ true = item_passes (λ (bytes : List ℕ). bytes_eq bytes statement) has.entry.turned.sealed statement has.sealed itself in
+    let entry : has_sealed statement has.entry ≡ true =
+    item_passes (λ (bytes : List ℕ). bytes_eq bytes statement) has.entry.turned.sealed statement has.sealed itself in
     rw has.journal_is (item_passes (has_sealed statement) has.journal.entries has.entry has.entry_is entry)
 
 -- ---- forged parts
@@ -95,7 +97,10 @@ module _ (check : Check) (run : RunRecord) (p : Part) where
 
   pub forged_holds : IsForgedPart check run p → is_forged check run p ≡ true
   forged_holds forged =
-      let none : was_sealed run.journals p.signer p.statement ≡ false = false_from_ne_true (was_sealed run.journals p.signer p.statement) (λ holds. forged.never (sealed_shows run p.signer p.statement holds)) in
+      let none : was_sealed run.journals p.signer p.statement ≡ false =
+      false_from_ne_true (was_sealed run.journals p.signer p.statement)
+      (λ holds. forged.never (sealed_shows run p.signer p.statement holds)) in
       and_from (honest_in run p.signer && not (was_sealed run.journals p.signer p.statement)) (check p.signer p.statement p.seal)
-      (and_from (honest_in run p.signer) (not (was_sealed run.journals p.signer p.statement)) (honest_holds run p.signer forged.honest) (not_from_false (was_sealed run.journals p.signer p.statement) none))
+      (and_from (honest_in run p.signer) (not (was_sealed run.journals p.signer p.statement)) (honest_holds run p.signer forged.honest)
+      (not_from_false (was_sealed run.journals p.signer p.statement) none))
       forged.fits

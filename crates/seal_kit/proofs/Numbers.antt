@@ -19,7 +19,8 @@ uses_at before after capacity bytes gives None h some = cc
 uses_at before after capacity bytes gives (Some s) h some = omega (arith, h.1)
 
 -- no later call starts below
-later : (gives : ℕ → List ℕ → List ℕ) (capacity low made : ℕ) (calls : List Call) → low ≤ made → AreCalls gives capacity made calls → All (λ c. low ≤ c.before) calls
+later : (gives : ℕ → List ℕ → List ℕ) (capacity low made : ℕ) (calls : List Call) → low ≤ made → AreCalls gives capacity made calls
+    → All (λ c. low ≤ c.before) calls
 later gives capacity low made [] le t = All-nil (λ (c : Call). low ≤ c.before)
 later gives capacity low made (c ∷ cs) le t =
     let here : low ≤ c.before = omega (arith, t.0) in

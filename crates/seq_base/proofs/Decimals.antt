@@ -21,7 +21,8 @@ leading_zero n small first =
       | inr (inr some) ↦ absurd (omega (arith, first_decimal n some small))
     ]
 
-pub decimal_of_digits : (text : List ℕ) (n : ℕ) → AllDigits 10 text → 0 < length text → (get_or text 0 0 ≡ 48 → length text ≡ 1) → n ≡ digits_value 10 text → n < 2 ^ 64 → text ≡ decimal n
+pub decimal_of_digits : (text : List ℕ) (n : ℕ) → AllDigits 10 text → 0 < length text → (get_or text 0 0 ≡ 48 → length text ≡ 1)
+    → n ≡ digits_value 10 text → n < 2 ^ 64 → text ≡ decimal n
 decimal_of_digits text n digits some leading value small =
     let bound : digits_value 10 text < 2 ^ 64 = omega arith in
     sym (decimal-digits_value numerals text digits some leading bound) ∙ ap decimal (sym value)

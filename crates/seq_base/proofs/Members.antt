@@ -68,11 +68,13 @@ holds_first : (x : Tx) (xs : List Tx) → holds x (x ∷ xs) ≡ true
 holds_first x xs = or_left (tx_eq x x) (holds x xs) ((tx_eq_decides x x).1 refl)
 
 -- ascending lists with the same members are equal
-pub same_members : (xs ys : List Tx) → IsStrictlySortedBy tx_cmp xs → IsStrictlySortedBy tx_cmp ys → ((t : Tx) → (holds t xs ≡ true) ↔ (holds t ys ≡ true)) → xs ≡ ys
+pub same_members : (xs ys : List Tx) → IsStrictlySortedBy tx_cmp xs → IsStrictlySortedBy tx_cmp ys
+    → ((t : Tx) → (holds t xs ≡ true) ↔ (holds t ys ≡ true)) → xs ≡ ys
 same_members [] [] one other members = refl
 same_members [] (y ∷ ys) one other members = absurd (let held : holds y [] ≡ true = (members y).1 (holds_first y ys) in (cc))
 same_members (x ∷ xs) [] one other members = absurd (let held : holds x [] ≡ true = (members x).0 (holds_first x xs) in (cc))
-same_members (x ∷ xs) (y ∷ ys) one other members = ap (λ (z : Tx). z ∷ xs) first ∙ ap (λ (zs : List Tx). y ∷ zs) (same_members xs ys (sorted_tail tx_cmp x xs one) (sorted_tail tx_cmp y ys other) rest)
+same_members (x ∷ xs) (y ∷ ys) one other members = ap (λ (z : Tx). z ∷ xs) first
+    ∙ ap (λ (zs : List Tx). y ∷ zs) (same_members xs ys (sorted_tail tx_cmp x xs one) (sorted_tail tx_cmp y ys other) rest)
   where
     above : (t : Tx) → holds t xs ≡ true → tx_cmp x t ≡ Less
     above t held = held_has (λ z. tx_cmp x z ≡ Less) xs t (sorted_head tx_cmp x xs one) held

@@ -40,7 +40,8 @@ client_part text prefix rest t fits spelled split none =
     (no_dot_in_decimal t.client (omega (arith, fits.client)))
     (sym split ∙ spelled ∙ append_assoc (decimal t.client) (46 ∷ decimal t.number) (46 ∷ decimal t.payload))
 
-pub number_part : (text prefix rest : List ℕ) (t : Tx) → FitsTx t → text ≡ decimal t.number ++ (46 ∷ decimal t.payload) → text ≡ prefix ++ (46 ∷ rest) → HasNoDot prefix
+pub number_part : (text prefix rest : List ℕ) (t : Tx) → FitsTx t → text ≡ decimal t.number ++ (46 ∷ decimal t.payload)
+    → text ≡ prefix ++ (46 ∷ rest) → HasNoDot prefix
     → (prefix ≡ decimal t.number) × (rest ≡ decimal t.payload)
 number_part text prefix rest t fits spelled split none =
     same_parts prefix rest (decimal t.number) (decimal t.payload) none

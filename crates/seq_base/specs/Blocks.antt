@@ -78,7 +78,8 @@ make_cert view rest = record { view = view; block = rest.0; votes = rest.1 }
 pub cert_eq_decides : (a b : Cert) → Decides (cert_eq a b) (a ≡ b)
 unfolding make_cert
 cert_eq_decides a b =
-    parts_decide make_cert (λ (c : Cert). c.view) (λ (c : Cert). (c.block, c.votes)) (a.view == b.view) (digest_eq a.block b.block && pointwise cert_vote_eq a.votes b.votes) a b refl refl
+    parts_decide make_cert (λ (c : Cert). c.view) (λ (c : Cert). (c.block, c.votes)) (a.view == b.view)
+    (digest_eq a.block b.block && pointwise cert_vote_eq a.votes b.votes) a b refl refl
     (unsigned_Decides a.view b.view)
     (pair_decides (digest_eq a.block b.block) (pointwise cert_vote_eq a.votes b.votes) a.block b.block a.votes b.votes
     (digest_eq_decides a.block b.block) (pointwise_decides cert_vote_eq_decides a.votes b.votes))
@@ -105,7 +106,8 @@ make_sealed_order order seal = record { order = order; seal = seal }
 sealed_order_eq_decides : (a b : SealedOrder) → Decides (sealed_order_eq a b) (a ≡ b)
 unfolding make_sealed_order
 sealed_order_eq_decides a b =
-    parts_decide make_sealed_order (λ (o : SealedOrder). o.order) (λ (o : SealedOrder). o.seal) (order_eq a.order b.order) (pointwise nat_eq a.seal b.seal) a b refl refl
+    parts_decide make_sealed_order (λ (o : SealedOrder). o.order) (λ (o : SealedOrder). o.seal) (order_eq a.order b.order)
+    (pointwise nat_eq a.seal b.seal) a b refl refl
     (order_eq_decides a.order b.order) (bytes_decides a.seal b.seal)
 
 make_block : ℕ → Cert × List SealedOrder → Block
@@ -114,7 +116,8 @@ make_block view rest = record { view = view; cert = rest.0; orders = rest.1 }
 pub block_eq_decides : (a b : Block) → Decides (block_eq a b) (a ≡ b)
 unfolding make_block
 block_eq_decides a b =
-    parts_decide make_block (λ (x : Block). x.view) (λ (x : Block). (x.cert, x.orders)) (a.view == b.view) (cert_eq a.cert b.cert && pointwise sealed_order_eq a.orders b.orders) a b refl refl
+    parts_decide make_block (λ (x : Block). x.view) (λ (x : Block). (x.cert, x.orders)) (a.view == b.view)
+    (cert_eq a.cert b.cert && pointwise sealed_order_eq a.orders b.orders) a b refl refl
     (unsigned_Decides a.view b.view)
     (pair_decides (cert_eq a.cert b.cert) (pointwise sealed_order_eq a.orders b.orders) a.cert b.cert a.orders b.orders
     (cert_eq_decides a.cert b.cert) (pointwise_decides sealed_order_eq_decides a.orders b.orders))

@@ -16,7 +16,8 @@ tx_cmp a b = ordering_then (nat_cmp a.client b.client) (ordering_then (nat_cmp a
 
 -- this is a total order
 pub tx_cmp_total : IsTotalOrder tx_cmp
-tx_cmp_total = then_total (on_total (λ (t : Tx). t.client) nat_cmp_total) (then_total (on_total (λ (t : Tx). t.number) nat_cmp_total) (on_total (λ (t : Tx). t.payload) nat_cmp_total))
+tx_cmp_total = then_total (on_total (λ (t : Tx). t.client) nat_cmp_total)
+    (then_total (on_total (λ (t : Tx). t.number) nat_cmp_total) (on_total (λ (t : Tx). t.payload) nat_cmp_total))
 
 -- equality of the whole record
 abbrev pub tx_eq : Tx → Tx → Bool

@@ -13,8 +13,11 @@ pub boxed_as : (P : Seat → List ℕ → List ℕ → Type 0) (id id_was seed s
 boxed_as P id id_was seed seed_was seat boxed first second same holds =
     subst (λ (s : Seat). P s id seed) (sym same) (subst (λ (x : List ℕ). P seat id x) second (subst (λ (x : List ℕ). P seat x seed_was) first holds))
 
-pub opened_boxed : (fits : Check) (height : Height) (me : ℕ) (opening : State) (log : List ℕ) (used : ℕ) (id id_was seed seed_was : List ℕ) (seat boxed : Seat) → id_was ≡ id → seed_was ≡ seed → boxed ≡ seat
+pub opened_boxed : (fits : Check)
+    (height : Height) (me : ℕ) (opening : State) (log : List ℕ) (used : ℕ) (id id_was seed seed_was : List ℕ) (seat boxed : Seat)
+    → id_was ≡ id → seed_was ≡ seed → boxed ≡ seat
     → HasOpened fits (any_gives (any_sealer id_was seed_was height me)) opening seat.header log used seat.node.state
     → HasOpened fits (any_gives (any_sealer id seed height me)) opening boxed.header log used boxed.node.state
 opened_boxed fits height me opening log used id id_was seed seed_was seat boxed first second same opened =
-    boxed_as (λ s i e. HasOpened fits (any_gives (any_sealer i e height me)) opening s.header log used s.node.state) id id_was seed seed_was seat boxed first second same opened
+    boxed_as (λ s i e. HasOpened fits (any_gives (any_sealer i e height me)) opening s.header log used s.node.state) id id_was seed seed_was
+    seat boxed first second same opened

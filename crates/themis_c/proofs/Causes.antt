@@ -21,17 +21,100 @@ module _ (s : Parameters) (views me : ℕ) (height : Height) (secret : List ℕ)
     no_memory = λ is. absurd (other is);
   }
 
-  by_fault : (fault : OpenFault) (used : ℕ) → IsCause fault s views me (id_of secret) (seed_of secret) height publics log → HasCause (status_of fault) s views me height secret publics log (place_of fault used)
-  by_fault Number used is = record { number = λ _. is; seals = λ e. absurd (omega (arith, e)); count = λ e. absurd (omega (arith, e)); other_secret = λ e. absurd (omega (arith, e)); no_header = λ e. absurd (omega (arith, e)); other_log = λ e. absurd (omega (arith, e)); corrupt = λ e. absurd (omega (arith, e)); no_memory = λ e. absurd (omega (arith, e)) }
-  by_fault Views used is = record { number = λ e. absurd (omega (arith, e)); seals = λ _. is; count = λ e. absurd (omega (arith, e)); other_secret = λ e. absurd (omega (arith, e)); no_header = λ e. absurd (omega (arith, e)); other_log = λ e. absurd (omega (arith, e)); corrupt = λ e. absurd (omega (arith, e)); no_memory = λ e. absurd (omega (arith, e)) }
-  by_fault Count used is = record { number = λ e. absurd (omega (arith, e)); seals = λ e. absurd (omega (arith, e)); count = λ _. is; other_secret = λ e. absurd (omega (arith, e)); no_header = λ e. absurd (omega (arith, e)); other_log = λ e. absurd (omega (arith, e)); corrupt = λ e. absurd (omega (arith, e)); no_memory = λ e. absurd (omega (arith, e)) }
-  by_fault Secret used is = record { number = λ e. absurd (omega (arith, e)); seals = λ e. absurd (omega (arith, e)); count = λ e. absurd (omega (arith, e)); other_secret = λ _. is; no_header = λ e. absurd (omega (arith, e)); other_log = λ e. absurd (omega (arith, e)); corrupt = λ e. absurd (omega (arith, e)); no_memory = λ e. absurd (omega (arith, e)) }
-  by_fault NoHeader used is = record { number = λ e. absurd (omega (arith, e)); seals = λ e. absurd (omega (arith, e)); count = λ e. absurd (omega (arith, e)); other_secret = λ e. absurd (omega (arith, e)); no_header = λ _. is; other_log = λ e. absurd (omega (arith, e)); corrupt = λ e. absurd (omega (arith, e)); no_memory = λ e. absurd (omega (arith, e)) }
-  by_fault OtherLog used is = record { number = λ e. absurd (omega (arith, e)); seals = λ e. absurd (omega (arith, e)); count = λ e. absurd (omega (arith, e)); other_secret = λ e. absurd (omega (arith, e)); no_header = λ e. absurd (omega (arith, e)); other_log = λ _. is; corrupt = λ e. absurd (omega (arith, e)); no_memory = λ e. absurd (omega (arith, e)) }
-  by_fault (Corrupt at) used is = record { number = λ e. absurd (omega (arith, e)); seals = λ e. absurd (omega (arith, e)); count = λ e. absurd (omega (arith, e)); other_secret = λ e. absurd (omega (arith, e)); no_header = λ e. absurd (omega (arith, e)); other_log = λ e. absurd (omega (arith, e)); corrupt = λ _. is; no_memory = λ e. absurd (omega (arith, e)) }
-  by_fault NoMemory used is = record { number = λ e. absurd (omega (arith, e)); seals = λ e. absurd (omega (arith, e)); count = λ e. absurd (omega (arith, e)); other_secret = λ e. absurd (omega (arith, e)); no_header = λ e. absurd (omega (arith, e)); other_log = λ e. absurd (omega (arith, e)); corrupt = λ e. absurd (omega (arith, e)); no_memory = λ _. is }
+  by_fault : (fault : OpenFault) (used : ℕ) → IsCause fault s views me (id_of secret) (seed_of secret) height publics log
+      → HasCause (status_of fault) s views me height secret publics log (place_of fault used)
+  by_fault Number used is =
+      record {
+        number = λ _. is;
+        seals = λ e. absurd (omega (arith, e));
+        count = λ e. absurd (omega (arith, e));
+        other_secret = λ e. absurd (omega (arith, e));
+        no_header = λ e. absurd (omega (arith, e));
+        other_log = λ e. absurd (omega (arith, e));
+        corrupt = λ e. absurd (omega (arith, e));
+        no_memory = λ e. absurd (omega (arith, e));
+      }
+  by_fault Views used is =
+      record {
+        number = λ e. absurd (omega (arith, e));
+        seals = λ _. is;
+        count = λ e. absurd (omega (arith, e));
+        other_secret = λ e. absurd (omega (arith, e));
+        no_header = λ e. absurd (omega (arith, e));
+        other_log = λ e. absurd (omega (arith, e));
+        corrupt = λ e. absurd (omega (arith, e));
+        no_memory = λ e. absurd (omega (arith, e));
+      }
+  by_fault Count used is =
+      record {
+        number = λ e. absurd (omega (arith, e));
+        seals = λ e. absurd (omega (arith, e));
+        count = λ _. is;
+        other_secret = λ e. absurd (omega (arith, e));
+        no_header = λ e. absurd (omega (arith, e));
+        other_log = λ e. absurd (omega (arith, e));
+        corrupt = λ e. absurd (omega (arith, e));
+        no_memory = λ e. absurd (omega (arith, e));
+      }
+  by_fault Secret used is =
+      record {
+        number = λ e. absurd (omega (arith, e));
+        seals = λ e. absurd (omega (arith, e));
+        count = λ e. absurd (omega (arith, e));
+        other_secret = λ _. is;
+        no_header = λ e. absurd (omega (arith, e));
+        other_log = λ e. absurd (omega (arith, e));
+        corrupt = λ e. absurd (omega (arith, e));
+        no_memory = λ e. absurd (omega (arith, e));
+      }
+  by_fault NoHeader used is =
+      record {
+        number = λ e. absurd (omega (arith, e));
+        seals = λ e. absurd (omega (arith, e));
+        count = λ e. absurd (omega (arith, e));
+        other_secret = λ e. absurd (omega (arith, e));
+        no_header = λ _. is;
+        other_log = λ e. absurd (omega (arith, e));
+        corrupt = λ e. absurd (omega (arith, e));
+        no_memory = λ e. absurd (omega (arith, e));
+      }
+  by_fault OtherLog used is =
+      record {
+        number = λ e. absurd (omega (arith, e));
+        seals = λ e. absurd (omega (arith, e));
+        count = λ e. absurd (omega (arith, e));
+        other_secret = λ e. absurd (omega (arith, e));
+        no_header = λ e. absurd (omega (arith, e));
+        other_log = λ _. is;
+        corrupt = λ e. absurd (omega (arith, e));
+        no_memory = λ e. absurd (omega (arith, e));
+      }
+  by_fault (Corrupt at) used is =
+      record {
+        number = λ e. absurd (omega (arith, e));
+        seals = λ e. absurd (omega (arith, e));
+        count = λ e. absurd (omega (arith, e));
+        other_secret = λ e. absurd (omega (arith, e));
+        no_header = λ e. absurd (omega (arith, e));
+        other_log = λ e. absurd (omega (arith, e));
+        corrupt = λ _. is;
+        no_memory = λ e. absurd (omega (arith, e));
+      }
+  by_fault NoMemory used is =
+      record {
+        number = λ e. absurd (omega (arith, e));
+        seals = λ e. absurd (omega (arith, e));
+        count = λ e. absurd (omega (arith, e));
+        other_secret = λ e. absurd (omega (arith, e));
+        no_header = λ e. absurd (omega (arith, e));
+        other_log = λ e. absurd (omega (arith, e));
+        corrupt = λ e. absurd (omega (arith, e));
+        no_memory = λ _. is;
+      }
 
-  pub has_cause : (fault : OpenFault) (used status place : ℕ) → IsCause fault s views me (id_of secret) (seed_of secret) height publics log → status ≡ status_of fault → place ≡ place_of fault used
+  pub has_cause : (fault : OpenFault) (used status place : ℕ) → IsCause fault s views me (id_of secret) (seed_of secret) height publics log
+      → status ≡ status_of fault → place ≡ place_of fault used
       → HasCause status s views me height secret publics log place
   has_cause fault used status place is says written =
-      subst (λ (c : ℕ). HasCause c s views me height secret publics log place) (sym says) (subst (λ (p : ℕ). HasCause (status_of fault) s views me height secret publics log p) (sym written) (by_fault fault used is))
+      subst (λ (c : ℕ). HasCause c s views me height secret publics log place) (sym says)
+      (subst (λ (p : ℕ). HasCause (status_of fault) s views me height secret publics log p) (sym written) (by_fault fault used is))

@@ -16,7 +16,8 @@ written_more f xs ys at d there room = rw add-one (next f xs ys at d there room)
 
 -- the same, from a position of the buffer on
 pub written_from : {X Y : Type 0} (f : X → Y) (xs : List X) (ys : List Y) (start at : ℕ) (d : X) → at < length xs → start + length xs ≤ length ys
-    → set (take start ys ++ map f (take at xs) ++ drop (start + at) ys) (start + at) (f (get_or xs at d)) ≡ take start ys ++ map f (take (at + 1) xs) ++ drop (start + (at + 1)) ys
+    → set (take start ys ++ map f (take at xs) ++ drop (start + at) ys) (start + at) (f (get_or xs at d))
+    ≡ take start ys ++ map f (take (at + 1) xs) ++ drop (start + (at + 1)) ys
 written_from f xs ys zero at d there room =
     let none : 0 + at ≡ at = omega arith in
     let more : 0 + (at + 1) ≡ at + 1 = omega arith in

@@ -22,13 +22,16 @@ seed_of secret = drop 16 secret
 
 -- the statuses of an opening
 abbrev pub IsOpenStatus : ℕ → Type 0
-IsOpenStatus status = (status ≡ OK) ⊎ (status ≡ NO_MEMORY) ⊎ (status ≡ BAD_SETTING) ⊎ (status ≡ BAD_HEIGHT) ⊎ (status ≡ BAD_NUMBER) ⊎ (status ≡ FEW_SEALS) ⊎ (status ≡ KEY_COUNT)
+IsOpenStatus status = (status ≡ OK) ⊎ (status ≡ NO_MEMORY) ⊎ (status ≡ BAD_SETTING) ⊎ (status ≡ BAD_HEIGHT) ⊎ (status ≡ BAD_NUMBER)
+    ⊎ (status ≡ FEW_SEALS) ⊎ (status ≡ KEY_COUNT)
     ⊎ (status ≡ WRONG_SECRET) ⊎ (status ≡ NO_HEADER) ⊎ (status ≡ OTHER_LOG) ⊎ (status ≡ CORRUPT_LOG)
 
 -- The replica is number me of this setting, with this secret, and stands where the log leads.
-pub record IsOpenedAs (s : Parameters) (views me : ℕ) (height : Height) (secret : List ℕ) (publics : List (List ℕ)) (log : List ℕ) (used : ℕ) (seat : Seat) : Type 0 where
+pub record IsOpenedAs (s : Parameters) (views me : ℕ) (height : Height) (secret : List ℕ) (publics : List (List ℕ)) (log : List ℕ)
+    (used : ℕ) (seat : Seat) : Type 0 where
   pub can : CanOpen s.n views me (id_of secret) (seed_of secret) height publics
-  pub opened : HasOpened (any_publics_fit height publics) (any_gives (any_sealer (id_of secret) (seed_of secret) height me)) (opening_state s views me (capacity_of height)) seat.header log used seat.node.state
+  pub opened : HasOpened (any_publics_fit height publics) (any_gives (any_sealer (id_of secret) (seed_of secret) height me))
+      (opening_state s views me (capacity_of height)) seat.header log used seat.node.state
   pub digest : IsDigestOf seat.header log seat.digest
   pub header : seat.header ≡ own_header s views me height publics
   pub fits : fits_of seat ≡ any_publics_fit height publics
@@ -39,14 +42,19 @@ pub record IsOpenedAs (s : Parameters) (views me : ℕ) (height : Height) (secre
 
 -- What a status implies where the height is known: its own cause, and that none before it holds. NO_MEMORY stands in for none of
 -- the first three. The place that is written is that of the corrupt record.
-pub record HasCause (status : ℕ) (s : Parameters) (views me : ℕ) (height : Height) (secret : List ℕ) (publics : List (List ℕ)) (log : List ℕ) (place : ℕ) : Type 0 where
+pub record HasCause (status : ℕ) (s : Parameters) (views me : ℕ) (height : Height) (secret : List ℕ) (publics : List (List ℕ))
+    (log : List ℕ) (place : ℕ) : Type 0 where
   pub number : status ≡ BAD_NUMBER → s.n ≤ me
   pub seals : status ≡ FEW_SEALS → (me < s.n) × (capacity_of height < 5 * views)
   pub count : status ≡ KEY_COUNT → (me < s.n) × (5 * views ≤ capacity_of height) × (length publics ≢ s.n)
-  pub other_secret : status ≡ WRONG_SECRET → HasPlace s.n views me height publics × (slice_get publics me ≢ Some (key_of_secret (id_of secret) (seed_of secret) height))
-  pub no_header : status ≡ NO_HEADER → CanOpen s.n views me (id_of secret) (seed_of secret) height publics × (¬ IsOwn (own_header s views me height publics) log) × (¬ HasOwner log)
-  pub other_log : status ≡ OTHER_LOG → CanOpen s.n views me (id_of secret) (seed_of secret) height publics × (¬ IsOwn (own_header s views me height publics) log) × HasOwner log
-  pub corrupt : status ≡ CORRUPT_LOG → CanOpen s.n views me (id_of secret) (seed_of secret) height publics × IsBadIn (own_header s views me height publics) log place
+  pub other_secret : status ≡ WRONG_SECRET
+      → HasPlace s.n views me height publics × (slice_get publics me ≢ Some (key_of_secret (id_of secret) (seed_of secret) height))
+  pub no_header : status ≡ NO_HEADER → CanOpen s.n views me (id_of secret) (seed_of secret) height publics
+      × (¬ IsOwn (own_header s views me height publics) log) × (¬ HasOwner log)
+  pub other_log : status ≡ OTHER_LOG → CanOpen s.n views me (id_of secret) (seed_of secret) height publics
+      × (¬ IsOwn (own_header s views me height publics) log) × HasOwner log
+  pub corrupt : status ≡ CORRUPT_LOG
+      → CanOpen s.n views me (id_of secret) (seed_of secret) height publics × IsBadIn (own_header s views me height publics) log place
   pub no_memory : status ≡ NO_MEMORY → HasPlace s.n views me height publics
 
 -- the status of a fault

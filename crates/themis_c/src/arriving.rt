@@ -120,7 +120,8 @@ fn arrive_proposed(replica: &mut Replica, into: &mut [CTx], count: &mut usize) -
 
 fn put_arrivals(arrivals: &Arrivals, into: &mut [CTx])
     requires { length arrivals.now.txs.items + length arrivals.now.given.items ≤ length into.old }
-    ensures { into.new ≡ map c_tx (arrivals.now.txs.items ++ arrivals.now.given.items) ++ drop (length arrivals.now.txs.items + length arrivals.now.given.items) into.old }
+    ensures { into.new ≡ map c_tx (arrivals.now.txs.items ++ arrivals.now.given.items)
+        ++ drop (length arrivals.now.txs.items + length arrivals.now.given.items) into.old }
 {
     let size = arrivals.txs.len();
     put_txs(arrivals.txs.as_slice(), into);

@@ -72,10 +72,12 @@ pub extern "C" fn themis_open(
     used: &mut usize,
 ) -> u32
     ensures opened { result ≡ OK → (height : Height) → height_of role.now.height ≡ Some height
-        → IsSomeAnd handle.new.seat (λ seat. IsOpenedAs (parameters role.now.n role.now.f role.now.p role.now.q) role.now.views role.now.me height secret.now publics.now log.now used.new seat) }
+        → IsSomeAnd handle.new.seat (λ seat. IsOpenedAs (parameters role.now.n role.now.f role.now.p role.now.q) role.now.views role.now.me
+        height secret.now publics.now log.now used.new seat) }
     ensures setting { (result ≡ BAD_SETTING) ↔ (¬ IsValid (parameters role.now.n role.now.f role.now.p role.now.q)) }
     ensures height { (result ≡ BAD_HEIGHT) ↔ (IsValid (parameters role.now.n role.now.f role.now.p role.now.q) × (height_of role.now.height ≡ None)) }
-    ensures cause { (height : Height) → height_of role.now.height ≡ Some height → HasCause result (parameters role.now.n role.now.f role.now.p role.now.q) role.now.views role.now.me height secret.now publics.now log.now used.new }
+    ensures cause { (height : Height) → height_of role.now.height ≡ Some height → HasCause result
+        (parameters role.now.n role.now.f role.now.p role.now.q) role.now.views role.now.me height secret.now publics.now log.now used.new }
     ensures closed { IsOpenStatus result }
     ensures refused { result ≢ OK → handle.new.seat ≡ handle.old.seat }
 {
@@ -105,7 +107,8 @@ fn open_as(
     log: &[u8],
     used: &mut usize,
 ) -> u32
-    ensures opened { result ≡ OK → IsSomeAnd handle.new.seat (λ seat. IsOpenedAs role.now.setting role.now.views role.now.me role.now.height secret.now publics.now log.now used.new seat) }
+    ensures opened { result ≡ OK → IsSomeAnd handle.new.seat
+        (λ seat. IsOpenedAs role.now.setting role.now.views role.now.me role.now.height secret.now publics.now log.now used.new seat) }
     ensures cause { HasCause result role.now.setting role.now.views role.now.me role.now.height secret.now publics.now log.now used.new }
     ensures closed { IsOpenStatus result }
     ensures refused { result ≢ OK → handle.new.seat ≡ handle.old.seat }
@@ -129,7 +132,8 @@ fn open_boxed(
     log: &[u8],
 ) -> Result<(Box<Replica>, usize), OpenFault>
     ensures can { OnOk result (CanOpen role.now.setting.n role.now.views role.now.me (id_of secret.now) (seed_of secret.now) role.now.height publics.now) }
-    ensures opened { IfOk result (λ o. HasOpened (any_publics_fit role.now.height publics.now) (any_gives (any_sealer (id_of secret.now) (seed_of secret.now) role.now.height role.now.me))
+    ensures opened { IfOk result (λ o. HasOpened (any_publics_fit role.now.height publics.now)
+        (any_gives (any_sealer (id_of secret.now) (seed_of secret.now) role.now.height role.now.me))
         (opening_state role.now.setting role.now.views role.now.me (capacity_of role.now.height)) o.0.value.header log.now o.1 o.0.value.node.state) }
     ensures digest { IfOk result (λ o. IsDigestOf o.0.value.header log.now o.0.value.digest) }
     ensures header { IfOk result (λ o. o.0.value.header ≡ own_header role.now.setting role.now.views role.now.me role.now.height publics.now) }
@@ -138,7 +142,8 @@ fn open_boxed(
     ensures idle { IfOk result (λ o. (o.0.value.ready ≡ []) × (o.0.value.sealed ≡ []) × (o.0.value.sends ≡ [])) }
     ensures desk { IfOk result (λ o. o.0.value.desk ≡ opening role.now.setting.n role.now.setting.f role.now.me) }
     ensures running { IfOk result (λ o. o.0.value.node.halted ≡ false) }
-    ensures cause { IfErr result (λ fault. IsCause fault role.now.setting role.now.views role.now.me (id_of secret.now) (seed_of secret.now) role.now.height publics.now log.now) }
+    ensures cause { IfErr result
+        (λ fault. IsCause fault role.now.setting role.now.views role.now.me (id_of secret.now) (seed_of secret.now) role.now.height publics.now log.now) }
 {
     let (replica, used) = Replica::open(
         alloc,

@@ -34,7 +34,8 @@ pub extern "C" fn themis_send(
     into: &mut [u8],
     size: &mut usize,
 ) -> u32
-    ensures given { (seat : Seat) → handle.old.seat ≡ Some seat → IsGiven (option_map (λ out. out.bytes) (slice_get seat.sends at)) result into.old into.new size.new }
+    ensures given { (seat : Seat) → handle.old.seat ≡ Some seat
+        → IsGiven (option_map (λ out. out.bytes) (slice_get seat.sends at)) result into.old into.new size.new }
     ensures to { result ≡ OK → IsSomeAnd handle.old.seat (λ seat. slice_get (map (λ out. out.to) seat.sends) at ≡ Some to.new) }
     ensures same { handle.new.seat ≡ handle.old.seat }
     ensures kept { result ≢ OK → into.new ≡ into.old }

@@ -24,7 +24,8 @@ pub extern "C" fn themis_receipts(
     into: &mut [CReceipt],
     count: &mut usize,
 ) -> u32
-    ensures copied { result ≡ OK → IsSomeAnd handle.old.seat (λ seat. into.new ≡ map c_receipt (receipts_after after (length into.old) seat.desk) ++ drop count.new into.old) }
+    ensures copied { result ≡ OK → IsSomeAnd handle.old.seat
+        (λ seat. into.new ≡ map c_receipt (receipts_after after (length into.old) seat.desk) ++ drop count.new into.old) }
     ensures count { result ≡ OK → IsSomeAnd handle.old.seat (λ seat. count.new ≡ length (receipts_after after (length into.old) seat.desk)) }
     ensures uncounted { result ≢ OK → count.new ≡ count.old }
     ensures same { handle.new.seat ≡ handle.old.seat }

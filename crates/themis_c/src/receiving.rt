@@ -106,7 +106,8 @@ pub extern "C" fn themis_hear_clock(
     peer: u32,
     clock: u64,
 ) -> u32
-    ensures heard { result ≡ OK → (old : Seat) → handle.old.seat ≡ Some old → IsSomeAnd handle.new.seat (λ new. new ≡ record old { desk = clock_heard peer clock old.desk }) }
+    ensures heard { result ≡ OK → (old : Seat) → handle.old.seat ≡ Some old
+        → IsSomeAnd handle.new.seat (λ new. new ≡ record old { desk = clock_heard peer clock old.desk }) }
     ensures peer { (old : Seat) → handle.old.seat ≡ Some old → (result ≡ OK) ↔ (peer < old.desk.n) }
     ensures status { handle.old.seat ≢ None → result ≢ OK → result ≡ BAD_NUMBER }
     ensures refused { result ≢ OK → handle.new.seat ≡ handle.old.seat }
@@ -174,7 +175,8 @@ fn restore(replica: &mut Replica, tx: &CTx, taken: &mut u32) -> u32
 /// Transactions that are final. They are no longer held, and are not received again.
 #[unsafe(no_mangle)]
 pub extern "C" fn themis_settle(alloc: Global, handle: &mut Handle, txs: &[CTx]) -> u32
-    ensures settled { result ≡ OK → (old : Seat) → handle.old.seat ≡ Some old → IsSomeAnd handle.new.seat (λ new. new ≡ record old { desk = settled (map tx_of txs.now) old.desk }) }
+    ensures settled { result ≡ OK → (old : Seat) → handle.old.seat ≡ Some old
+        → IsSomeAnd handle.new.seat (λ new. new ≡ record old { desk = settled (map tx_of txs.now) old.desk }) }
     ensures status { handle.old.seat ≢ None → IsOkOrNoMemory result }
     ensures refused { result ≢ OK → handle.new.seat ≡ handle.old.seat }
     ensures vacant { (result ≡ VACANT) ↔ (handle.old.seat ≡ None) }
@@ -209,9 +211,12 @@ fn settle_all(alloc: Global, replica: &mut Replica, txs: &[CTx]) -> Result<(), N
 /// The message of a block that a turn stored: a Propose or a Give.
 #[unsafe(no_mangle)]
 pub extern "C" fn themis_accepted(alloc: Global, handle: &mut Handle, bytes: &[u8]) -> u32
-    ensures named { (old : Seat) → handle.old.seat ≡ Some old → IsSomeAnd handle.new.seat (λ new. HasNamed old.desk new.desk × (new ≡ record old { desk = new.desk })) }
-    ensures only { (old : Seat) → handle.old.seat ≡ Some old → IsSomeAnd handle.new.seat (λ new. HasNamedOf old.desk.f (shown_lists bytes.now) old.desk new.desk) }
-    ensures all { result ≢ NO_MEMORY → (old : Seat) → handle.old.seat ≡ Some old → IsSomeAnd handle.new.seat (λ new. HasNamedAll old.desk.f (shown_lists bytes.now) old.desk new.desk) }
+    ensures named { (old : Seat) → handle.old.seat ≡ Some old
+        → IsSomeAnd handle.new.seat (λ new. HasNamed old.desk new.desk × (new ≡ record old { desk = new.desk })) }
+    ensures only { (old : Seat) → handle.old.seat ≡ Some old
+        → IsSomeAnd handle.new.seat (λ new. HasNamedOf old.desk.f (shown_lists bytes.now) old.desk new.desk) }
+    ensures all { result ≢ NO_MEMORY → (old : Seat) → handle.old.seat ≡ Some old
+        → IsSomeAnd handle.new.seat (λ new. HasNamedAll old.desk.f (shown_lists bytes.now) old.desk new.desk) }
     ensures found { handle.old.seat ≢ None → result ≢ NO_MEMORY → result ≡ (if shows_block bytes.now then OK else NONE) }
     ensures none { handle.old.seat ≢ None → shows_block bytes.now ≡ false → (result ≡ NONE) × (handle.new.seat ≡ handle.old.seat) }
     ensures vacant { (result ≡ VACANT) ↔ (handle.old.seat ≡ None) }

@@ -36,7 +36,8 @@ pub extern "C" fn themis_history_add(
     ended: &mut u32,
     at: &mut usize,
 ) -> u32
-    ensures added { result ≡ OK → (tx : Tx) → is_known (final_in history.new.keys) tx ≡ (is_known (final_in history.old.keys) tx || holds tx (map tx_of batch.now)) }
+    ensures added { result ≡ OK → (tx : Tx)
+        → is_known (final_in history.new.keys) tx ≡ (is_known (final_in history.old.keys) tx || holds tx (map tx_of batch.now)) }
     ensures ended { result ≡ OK → ended.new ≡ bit_of (holds (marker session) (map tx_of batch.now)) }
     ensures status { IsAddStatus result (is_known (final_in history.old.keys)) (map tx_of batch.now) at.old at.new }
     ensures refused { result ≢ OK → (final_in history.new.keys ≡ final_in history.old.keys) × (ended.new ≡ ended.old) }
@@ -134,7 +135,8 @@ pub extern "C" fn themis_history_carried(
     into: &mut [CTx],
     count: &mut usize,
 ) -> u32
-    ensures given { result ≢ NO_MEMORY → IsGiven (Some (map c_tx (left_of (is_known (final_in history.old.keys)) (map tx_of arrived.now)))) result into.old into.new count.new }
+    ensures given { result ≢ NO_MEMORY
+        → IsGiven (Some (map c_tx (left_of (is_known (final_in history.old.keys)) (map tx_of arrived.now)))) result into.old into.new count.new }
     ensures kept { result ≢ OK → into.new ≡ into.old }
     ensures uncounted { result ≡ NO_MEMORY → count.new ≡ count.old }
     ensures same { final_in history.new.keys ≡ final_in history.old.keys }

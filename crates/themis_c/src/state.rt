@@ -78,7 +78,8 @@ pub extern "C" fn themis_batch(
     into: &mut [CTx],
     count: &mut usize,
 ) -> u32
-    ensures given { result ≢ NO_MEMORY → (seat : Seat) → handle.old.seat ≡ Some seat → IsGiven (option_map (map c_tx) (slice_get (finals_at seat.node.state.known) at)) result into.old into.new count.new }
+    ensures given { result ≢ NO_MEMORY → (seat : Seat) → handle.old.seat ≡ Some seat
+        → IsGiven (option_map (map c_tx) (slice_get (finals_at seat.node.state.known) at)) result into.old into.new count.new }
     ensures same { handle.new.seat ≡ handle.old.seat }
     ensures kept { result ≢ OK → into.new ≡ into.old }
     ensures uncounted { result ≡ NO_MEMORY → count.new ≡ count.old }
@@ -93,7 +94,8 @@ pub extern "C" fn themis_batch(
 }
 
 fn copy_batch(replica: &Replica, at: usize, into: &mut [CTx], count: &mut usize) -> u32
-    ensures given { result ≢ NO_MEMORY → IsGiven (option_map (map c_tx) (slice_get (finals_at replica.now.node.state.known) at)) result into.old into.new count.new }
+    ensures given { result ≢ NO_MEMORY
+        → IsGiven (option_map (map c_tx) (slice_get (finals_at replica.now.node.state.known) at)) result into.old into.new count.new }
     ensures kept { result ≢ OK → into.new ≡ into.old }
     ensures uncounted { result ≡ NO_MEMORY → count.new ≡ count.old }
     ensures held { result ≢ VACANT }
@@ -217,7 +219,8 @@ pub extern "C" fn themis_give(
     into: &mut [u8],
     size: &mut usize,
 ) -> u32
-    ensures given { result ≢ NO_MEMORY → (seat : Seat) → handle.old.seat ≡ Some seat → IsGiven (give_at seat.node.state.known above at) result into.old into.new size.new }
+    ensures given { result ≢ NO_MEMORY → (seat : Seat) → handle.old.seat ≡ Some seat
+        → IsGiven (give_at seat.node.state.known above at) result into.old into.new size.new }
     ensures refused { result ≡ NO_MEMORY → (seat : Seat) → handle.old.seat ≡ Some seat → give_at seat.node.state.known above at ≢ None }
     ensures same { handle.new.seat ≡ handle.old.seat }
     ensures kept { result ≢ OK → into.new ≡ into.old }

@@ -17,12 +17,14 @@ use Rattle.themis_calls.specs.Statuses.{is_unread}
 use Rattle.themis_calls.proofs.CallEnds.{never_written}
 
 -- a text that is written
-pub ended_answers : (form : Form) (bytes text : List ℕ) (old new : Option (List ℕ)) (pair : Option (Tx × Tx)) → IsPrinted form bytes pair text → Took text old new → AnswersOrder form bytes old new (ended_as pair)
+pub ended_answers : (form : Form) (bytes text : List ℕ) (old new : Option (List ℕ)) (pair : Option (Tx × Tx))
+    → IsPrinted form bytes pair text → Took text old new → AnswersOrder form bytes old new (ended_as pair)
 ended_answers form bytes text old new None asked took = (text, asked, took)
 ended_answers form bytes text old new (Some pair) asked took = (text, asked, took)
 
 -- the input within the limit
-within_answers : (form : Form) (bytes : List ℕ) (old new : Option (List ℕ)) (status : Status) → length bytes ≤ most_input → AnswersOrder form bytes old new status → AnswersInput form bytes old new status
+within_answers : (form : Form) (bytes : List ℕ) (old new : Option (List ℕ)) (status : Status) → length bytes ≤ most_input
+    → AnswersOrder form bytes old new status → AnswersInput form bytes old new status
 within_answers form bytes old new Done within answers = (within, answers)
 within_answers form bytes old new ReadFault within answers = absurd answers
 within_answers form bytes old new WriteFault within answers = (within, answers)
@@ -38,7 +40,8 @@ within_answers form bytes old new (BadTrace at) within answers = answers
 within_answers form bytes old new (Unlawful replica entry rule) within answers = answers
 
 -- what is answered is due, where nothing failed
-order_is_due : (form : Form) (bytes : List ℕ) (old new : Option (List ℕ)) (status : Status) → AnswersInput form bytes old new status → (status ≡ ReadFault → ⊥) → (status ≡ WriteFault → ⊥)
+order_is_due : (form : Form) (bytes : List ℕ) (old new : Option (List ℕ)) (status : Status) → AnswersInput form bytes old new status
+    → (status ≡ ReadFault → ⊥) → (status ≡ WriteFault → ⊥)
     → (status ≡ NoMemory) ⊎ IsDue bytes status
 order_is_due form bytes old new Done answers reads writes = let (text, printed, took) = answers.1 in inr (answers.0, printed.asked)
 order_is_due form bytes old new ReadFault answers reads writes = absurd (reads refl)
@@ -54,7 +57,9 @@ order_is_due form bytes old new NoMemory answers reads writes = inl refl
 order_is_due form bytes old new (BadTrace at) answers reads writes = absurd answers
 order_is_due form bytes old new (Unlawful replica entry rule) answers reads writes = absurd answers
 
-pub read_answers : (form : Form) (SourceRose SinkRose : Type 0) (left : Option (List ℕ)) (input : List ℕ) (old new : Option (List ℕ)) (status : Status) → IfSome left (λ bytes. input ≡ bytes)
+pub read_answers : (form : Form)
+    (SourceRose SinkRose : Type 0) (left : Option (List ℕ)) (input : List ℕ) (old new : Option (List ℕ)) (status : Status)
+    → IfSome left (λ bytes. input ≡ bytes)
     → length input ≤ most_input → (status ≡ ReadFault → ⊥) → (status ≡ WriteFault → SinkRose) → AnswersOrder form input old new status
     → IfSome left (λ bytes. OrdersText form SourceRose SinkRose bytes old new status)
 read_answers form SourceRose SinkRose None input old new status same within reads writes answers = tt
@@ -68,7 +73,8 @@ read_answers form SourceRose SinkRose (Some bytes) input old new status same wit
     here = within_answers form input old new status within answers
 
 -- the input that is not read to its end
-stopped_answers : (form : Form) (bytes : List ℕ) (old new : Option (List ℕ)) (status : Status) → is_unread status ≡ true → (status ≡ TooLong → most_input < length bytes) → new ≡ old → AnswersInput form bytes old new status
+stopped_answers : (form : Form) (bytes : List ℕ) (old new : Option (List ℕ)) (status : Status) → is_unread status ≡ true
+    → (status ≡ TooLong → most_input < length bytes) → new ≡ old → AnswersInput form bytes old new status
 stopped_answers form bytes old new Done unread long same = absurd (cc)
 stopped_answers form bytes old new ReadFault unread long same = same
 stopped_answers form bytes old new WriteFault unread long same = absurd (cc)
@@ -83,7 +89,8 @@ stopped_answers form bytes old new NoMemory unread long same = same
 stopped_answers form bytes old new (BadTrace at) unread long same = absurd (cc)
 stopped_answers form bytes old new (Unlawful replica entry rule) unread long same = absurd (cc)
 
-pub unread_answers : (form : Form) (SourceRose SinkRose : Type 0) (left : Option (List ℕ)) (used : ℕ) (old new : Option (List ℕ)) (status : Status) → is_unread status ≡ true
+pub unread_answers : (form : Form) (SourceRose SinkRose : Type 0) (left : Option (List ℕ)) (used : ℕ) (old new : Option (List ℕ)) (status : Status)
+    → is_unread status ≡ true
     → (status ≡ TooLong → used ≡ most_input + 1) → (status ≡ ReadFault → SourceRose) → IfSome left (λ bytes. used ≤ length bytes) → new ≡ old
     → IfSome left (λ bytes. OrdersText form SourceRose SinkRose bytes old new status)
 unread_answers form SourceRose SinkRose None used old new status unread long reads within same = tt

@@ -24,7 +24,8 @@ use Rattle.themis_calls.specs.Statuses.{is_unread}
 
 -- ---- what is answered is due, where nothing failed
 
-found_so : (seals : Seals) (bytes : List ℕ) (given : Option RunRecord) (old new : Option (List ℕ)) (status : Status) → IsFound seals bytes given old new status → IsFoundSo seals bytes status
+found_so : (seals : Seals) (bytes : List ℕ) (given : Option RunRecord) (old new : Option (List ℕ)) (status : Status)
+    → IsFound seals bytes given old new status → IsFoundSo seals bytes status
 found_so seals bytes given old new status found = let audited = found.2 in (audited.trace, audited.read, found.3 ∙ ap status_found audited.found)
 
 audit_is_due : (seals : Seals) (bytes : List ℕ) (given : Option RunRecord) (old new : Option (List ℕ)) (status : Status)
@@ -38,8 +39,10 @@ audit_is_due seals bytes given old new (BadPlan fault) within answers reads writ
 audit_is_due seals bytes given old new TooLong within answers reads writes = inr (inl (refl, answers.0))
 audit_is_due seals bytes given old new (Open u v) within answers reads writes = absurd answers
 audit_is_due seals bytes given old new (Stalled turns ticks) within answers reads writes = absurd answers
-audit_is_due seals bytes given old new (Forged at) within answers reads writes = inr (inr (within, inr (found_so seals bytes given old new (Forged at) answers)))
-audit_is_due seals bytes given old new (Collided at) within answers reads writes = inr (inr (within, inr (found_so seals bytes given old new (Collided at) answers)))
+audit_is_due seals bytes given old new (Forged at) within answers reads writes =
+    inr (inr (within, inr (found_so seals bytes given old new (Forged at) answers)))
+audit_is_due seals bytes given old new (Collided at) within answers reads writes =
+    inr (inr (within, inr (found_so seals bytes given old new (Collided at) answers)))
 audit_is_due seals bytes given old new NoMemory within answers reads writes = inl refl
 audit_is_due seals bytes given old new (BadTrace at) within answers reads writes = inr (inr (within, inl (at, refl, answers.0)))
 audit_is_due seals bytes given old new (Unlawful replica entry rule) within answers reads writes =
@@ -51,11 +54,13 @@ stopped_audits : (seals : Seals) (SourceRose SinkRose : Type 0) (bytes : List �
     → is_unread status ≡ true → (status ≡ TooLong → most_trace < length bytes) → (status ≡ ReadFault → SourceRose) → new ≡ old
     → AuditsTrace seals SourceRose SinkRose bytes given old new status
 stopped_audits seals SourceRose SinkRose bytes given old new Done unread long reads same = absurd (cc)
-stopped_audits seals SourceRose SinkRose bytes given old new ReadFault unread long reads same = record { answers = same; due = λ read wrote. absurd (read (reads refl)) }
+stopped_audits seals SourceRose SinkRose bytes given old new ReadFault unread long reads same =
+    record { answers = same; due = λ read wrote. absurd (read (reads refl)) }
 stopped_audits seals SourceRose SinkRose bytes given old new WriteFault unread long reads same = absurd (cc)
 stopped_audits seals SourceRose SinkRose bytes given old new BadWords unread long reads same = absurd (cc)
 stopped_audits seals SourceRose SinkRose bytes given old new (BadPlan fault) unread long reads same = absurd (cc)
-stopped_audits seals SourceRose SinkRose bytes given old new TooLong unread long reads same = record { answers = (long refl, same); due = λ read wrote. inr (inl (refl, long refl)) }
+stopped_audits seals SourceRose SinkRose bytes given old new TooLong unread long reads same =
+    record { answers = (long refl, same); due = λ read wrote. inr (inl (refl, long refl)) }
 stopped_audits seals SourceRose SinkRose bytes given old new (Open u v) unread long reads same = absurd (cc)
 stopped_audits seals SourceRose SinkRose bytes given old new (Stalled turns ticks) unread long reads same = absurd (cc)
 stopped_audits seals SourceRose SinkRose bytes given old new (Forged at) unread long reads same = absurd (cc)
@@ -66,7 +71,8 @@ stopped_audits seals SourceRose SinkRose bytes given old new (Unlawful replica e
 
 -- ---- all that is answered
 
-pub read_audits : (seals : Seals) (SourceRose SinkRose : Type 0) (left : Option (List ℕ)) (input : List ℕ) (given : Option RunRecord) (old new : Option (List ℕ)) (status : Status)
+pub read_audits : (seals : Seals) (SourceRose SinkRose : Type 0) (left : Option (List ℕ)) (input : List ℕ) (given : Option RunRecord)
+    (old new : Option (List ℕ)) (status : Status)
     → IfSome left (λ bytes. input ≡ bytes) → length input ≤ most_trace → (status ≡ ReadFault → ⊥) → (status ≡ WriteFault → SinkRose)
     → AnswersAudit seals input given old new status → IfSome left (λ bytes. AuditsTrace seals SourceRose SinkRose bytes given old new status)
 read_audits seals SourceRose SinkRose None input given old new status same within reads writes answers = tt
@@ -76,8 +82,10 @@ read_audits seals SourceRose SinkRose (Some bytes) input given old new status sa
       due = λ read wrote. audit_is_due seals input given old new status within answers reads (λ is. wrote (writes is));
     })
 
-pub unread_audits : (seals : Seals) (SourceRose SinkRose : Type 0) (left : Option (List ℕ)) (used : ℕ) (given : Option RunRecord) (old new : Option (List ℕ)) (status : Status)
-    → is_unread status ≡ true → (status ≡ TooLong → used ≡ 67108865) → (status ≡ ReadFault → SourceRose) → IfSome left (λ bytes. used ≤ length bytes) → new ≡ old
+pub unread_audits : (seals : Seals) (SourceRose SinkRose : Type 0) (left : Option (List ℕ)) (used : ℕ) (given : Option RunRecord)
+    (old new : Option (List ℕ)) (status : Status)
+    → is_unread status ≡ true → (status ≡ TooLong → used ≡ 67108865) → (status ≡ ReadFault → SourceRose)
+    → IfSome left (λ bytes. used ≤ length bytes) → new ≡ old
     → IfSome left (λ bytes. AuditsTrace seals SourceRose SinkRose bytes given old new status)
 unread_audits seals SourceRose SinkRose None used given old new status unread long reads within same = tt
 unread_audits seals SourceRose SinkRose (Some bytes) used given old new status unread long reads within same =
@@ -106,7 +114,8 @@ reported_answers seals bytes trace finding text old new status read found printe
 
 -- ---- what holds of the record
 
-yes_means : (first : Option Place) (verdict : Verdict) → Done ≡ status_found (finding_by first verdict) → (first ≡ None) × ((verdict ≡ IsDone) ⊎ (verdict ≡ IsStalled))
+yes_means : (first : Option Place) (verdict : Verdict) → Done ≡ status_found (finding_by first verdict)
+    → (first ≡ None) × ((verdict ≡ IsDone) ⊎ (verdict ≡ IsStalled))
 yes_means (Some at) verdict says = absurd (cc)
 yes_means None IsDone says = (refl, inl refl)
 yes_means None IsStalled says = (refl, inr refl)
@@ -146,7 +155,9 @@ audit_kept seals bytes trace finding text old new status lawful examined read sp
     fits = fits_in seals trace
 
 -- what the source tells is what was read
-pub audit_of_source : (seals : Seals) (left : Option (List ℕ)) (input : List ℕ) (old new : Option (List ℕ)) (status : Status) (given : Option RunRecord) → IfSome left (λ bytes. input ≡ bytes)
+pub audit_of_source : (seals : Seals)
+    (left : Option (List ℕ)) (input : List ℕ) (old new : Option (List ℕ)) (status : Status) (given : Option RunRecord)
+    → IfSome left (λ bytes. input ≡ bytes)
     → IfSome given (KeepsAudit seals (Some input) old new status) → IfSome given (KeepsAudit seals left old new status)
 audit_of_source seals left input old new status None same kept = tt
 audit_of_source seals left input old new status (Some run) same kept = record {

@@ -57,12 +57,14 @@ stopped_ends rules source source' left used status reads fault long memory unrea
   run = let none : has_run status ≡ false = unread_is (λ (s : Status). has_run s ≡ false) status unread refl refl refl in rw none (sym (not_both rules.gives));
   limit = limit;
   too_long = too_long;
-  read_all = λ given all. absurd (let none : has_read_all status ≡ false = unread_is (λ (s : Status). has_read_all s ≡ false) status unread refl refl refl in let wrong : true ≡ false = sym all ∙ none in cc wrong);
+  read_all = λ given all. absurd (let none : has_read_all status ≡ false =
+      unread_is (λ (s : Status). has_read_all s ≡ false) status unread refl refl refl in let wrong : true ≡ false = sym all ∙ none in cc wrong);
 }
 
 -- it was, and answered
 pub read_ends : (rules : Rules) {S : Type 0} (source source' : S) (left : Option (List ℕ)) (given : Option RunRecord) (used : ℕ) (status : Status)
-    → rules.reads ≡ true → rules.ends status ≡ true → is_some given ≡ (rules.gives && has_run status) → (is_unread status ≡ true → status ≡ NoMemory) → used ≤ rules.most → HasEnded left
+    → rules.reads ≡ true → rules.ends status ≡ true → is_some given ≡ (rules.gives && has_run status)
+    → (is_unread status ≡ true → status ≡ NoMemory) → used ≤ rules.most → HasEnded left
     → EndsBy rules source source' left given used status
 read_ends rules source source' left given used status reads ends run only within ended = record {
   ends = ends;

@@ -50,7 +50,8 @@ never_both g u v complete least =
     complete i j (omega (arith, first.ordered, first.inside)) first.inside (λ same. omega (arith, first.ordered, same)) first.missing
 
 -- what is asked is one
-same_orders : (bytes : List ℕ) (pair other : Option (Tx × Tx)) (one : IsAsked bytes pair) (two : IsAsked bytes other) → IsOpen (proposal_of one.orders.setting one.orders.lists) other
+same_orders : (bytes : List ℕ) (pair other : Option (Tx × Tx)) (one : IsAsked bytes pair) (two : IsAsked bytes other)
+    → IsOpen (proposal_of one.orders.setting one.orders.lists) other
 same_orders bytes pair other one two =
     let same : two.orders ≡ one.orders = cc (sym two.read ∙ one.read) in
     subst (λ (o : OrderText). IsOpen (proposal_of o.setting o.lists) other) same two.undecided

@@ -54,16 +54,20 @@ plain_word_met c h position x xs p =
 plain_word_passes : (s : Shape) (h : Held) (x : ℕ) (xs : List ℕ) → (x == 45) ≡ false → word_passes s [] false idle (x ∷ xs) h ≡ true
 plain_word_passes s h x xs p =
     ap₂ (λ (last : Bool) (rest : Option Text). last
-    || flag_word_passes s.rules s.args_override_self (option_and_then long_of_rest (option_and_then (strip_byte 45) rest)) (x ∷ xs) h) (no_end x xs p) (no_flag x xs p)
-    ∙ ap (λ (rest : Option Text). option_map_or (λ flags. bundle_passes s.rules s.args_override_self flags h) (option_and_then short_of_rest rest) true) (no_flag x xs p)
+    || flag_word_passes s.rules s.args_override_self (option_and_then long_of_rest (option_and_then (strip_byte 45) rest)) (x ∷ xs) h)
+    (no_end x xs p) (no_flag x xs p)
+    ∙ ap (λ (rest : Option Text). option_map_or (λ flags. bundle_passes s.rules s.args_override_self flags h) (option_and_then short_of_rest rest) true)
+    (no_flag x xs p)
 
 taken_at : (c : List Rule) (h : Held) (position x : ℕ) (xs : List ℕ) → (x == 45) ≡ false
     → walked c [] (at_place h position) (x ∷ xs) ≡ to_positional c (arg_by_index c position) (x ∷ xs) (at_place h position) h
 unfolding clap_on_literals
 taken_at c h position x xs p = ap (λ (met : Held × Step). after_step c (x ∷ xs) (at_place h position) met.0 met.1) (plain_word_met c h position x xs p)
 
-passes_at : (s : Shape) (h : Held) (position x : ℕ) (xs : List ℕ) → (x == 45) ≡ false → turn_passes s [] (at_place h position) (x ∷ xs) ≡ step_passes s position h value
-passes_at s h position x xs p = ap₂ ◌&&◌ (plain_word_passes s h x xs p) (ap (λ (met : Held × Step). step_passes s position met.0 met.1) (plain_word_met s.rules h position x xs p))
+passes_at : (s : Shape) (h : Held) (position x : ℕ) (xs : List ℕ) → (x == 45) ≡ false
+    → turn_passes s [] (at_place h position) (x ∷ xs) ≡ step_passes s position h value
+passes_at s h position x xs p = ap₂ ◌&&◌ (plain_word_passes s h x xs p)
+    (ap (λ (met : Held × Step). step_passes s position met.0 met.1) (plain_word_met s.rules h position x xs p))
 
 abbrev rules : List Rule
 rules = (built grammar).top.rules
@@ -94,7 +98,8 @@ passes_all : (x y : ℕ) (xs ys : List ℕ) → (x == 45) ≡ false → (y == 45
     → walk_passes (built grammar).top [] start (codes "make" ∷ (x ∷ xs) ∷ (y ∷ ys) ∷ []) ≡ true
 unfolding clap_on_literals after_make seed_at count_at
 passes_all x y xs ys p q =
-    ap (λ (b : Bool). b && (turn_passes (built grammar).top [] (walked rules [] after_make (x ∷ xs)) (y ∷ ys) && true)) (passes_at (built grammar).top after_make.held 2 x xs p)
+    ap (λ (b : Bool). b && (turn_passes (built grammar).top [] (walked rules [] after_make (x ∷ xs)) (y ∷ ys) && true))
+    (passes_at (built grammar).top after_make.held 2 x xs p)
     ∙ ap (λ (w : Walk). turn_passes (built grammar).top [] w (y ∷ ys) && true) (taken_at rules after_make.held 2 x xs p)
     ∙ ap (λ (b : Bool). b && true) (passes_at (built grammar).top (seed_at x xs).held 3 y ys q)
 
@@ -169,7 +174,8 @@ parsed app words found are same matches = record {
   rows = ap words_in ((matches (ap is_simple same ∙ is_simple_grammar)).0 ∙ ap₂ matches_of same are.1.1) ∙ found_words are.0 are.1.0;
 }
 
-some_word : (word : Option (Bor Text)) (first seed count : Option Text) (command : Command) → text_of word ≡ first → words_by first seed count ≡ words_of command → IsSome word
+some_word : (word : Option (Bor Text)) (first seed count : Option Text) (command : Command) → text_of word ≡ first
+    → words_by first seed count ≡ words_of command → IsSome word
 unfolding words_by
 some_word (Some word) first seed count command same is = refl
 some_word None None seed count Order same is = absurd (cc is)
@@ -182,13 +188,15 @@ some_word None None seed count (Make s c) same is = absurd (cc is)
 some_word None (Some first) seed count command same is = absurd (cc same)
 
 -- there is a first word
-pub has_word : (words : List (String Global)) (found : Found) → Parsed words found → (word : Option (Bor Text)) → text_of word ≡ first_value found (codes "COMMAND") → IsSome word
+pub has_word : (words : List (String Global)) (found : Found) → Parsed words found → (word : Option (Bor Text))
+    → text_of word ≡ first_value found (codes "COMMAND") → IsSome word
 unfolding words_in
 has_word words found p word first =
     some_word word (first_of (codes "COMMAND") (rows_of found)) (first_of (codes "SEED") (rows_of found)) (first_of (codes "COUNT") (rows_of found)) p.command
     (first ∙ first_value-rows found (codes "COMMAND")) p.rows
 
-three_words : (word : Bor Text) (seed count : Option (Bor Text)) → words_by (Some word.now) (text_of seed) (text_of count) ≡ words_from word.now (option_zip seed count)
+three_words : (word : Bor Text) (seed count : Option (Bor Text))
+    → words_by (Some word.now) (text_of seed) (text_of count) ≡ words_from word.now (option_zip seed count)
 unfolding words_by
 three_words word None count = refl
 three_words word (Some seed) None = refl
@@ -196,7 +204,8 @@ three_words word (Some seed) (Some count) = refl
 
 -- the three values are the words of the command
 read_words : (words : List (String Global)) (found : Found) → (p : Parsed words found)
-    → (first seed count : Option (Bor Text)) → text_of first ≡ first_value found (codes "COMMAND") → text_of seed ≡ first_value found (codes "SEED") → text_of count ≡ first_value found (codes "COUNT")
+    → (first seed count : Option (Bor Text)) → text_of first ≡ first_value found (codes "COMMAND")
+    → text_of seed ≡ first_value found (codes "SEED") → text_of count ≡ first_value found (codes "COUNT")
     → (word : Bor Text) → first ≡ Some word → words_from word.now (option_zip seed count) ≡ words_of p.command
 unfolding words_in
 read_words words found p first seed count one two three word there =
@@ -209,7 +218,8 @@ read_words words found p first seed count one two three word there =
 
 -- and the command of these values is there, and is the one that the words name
 pub is_named : (words : List (String Global)) (found : Found) → (p : Parsed words found)
-    → (first seed count : Option (Bor Text)) → text_of first ≡ first_value found (codes "COMMAND") → text_of seed ≡ first_value found (codes "SEED") → text_of count ≡ first_value found (codes "COUNT")
+    → (first seed count : Option (Bor Text)) → text_of first ≡ first_value found (codes "COMMAND")
+    → text_of seed ≡ first_value found (codes "SEED") → text_of count ≡ first_value found (codes "COUNT")
     → (word : Bor Text) → first ≡ Some word → (numbers : Option (Bor Text × Bor Text)) → numbers ≡ option_zip seed count
     → (some : Option Command) → IfSome some (λ command. IsCommand command × (words_from word.now numbers ≡ words_of command))
     → IfNone some ((command : Command) → IsCommand command → words_from word.now numbers ≢ words_of command)

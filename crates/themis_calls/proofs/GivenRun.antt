@@ -38,7 +38,8 @@ use Rattle.themis_calls.specs.Traced.{IsTraced, trace_text_of}
 
 -- ---- the run of a kit that was made for the plan
 
-pub run_is : {S : Type 0} (replica capacity made : S → ℕ) (own : S → Gives) (meaning : Check) (seals : Seals) (plan : Plan) (n : ℕ) (run : RunRecord) (sealers : List S)
+pub run_is : {S : Type 0} (replica capacity made : S → ℕ) (own : S → Gives) (meaning : Check) (seals : Seals) (plan : Plan) (n : ℕ)
+    (run : RunRecord) (sealers : List S)
     → n ≡ plan.setting.n → run ≡ play_of meaning plan (map (λ s. signer (replica s) (capacity s) (own s) (made s)) sealers)
     → meaning ≡ seals.fits plan.seed plan.height n
     → map replica sealers ≡ range_with_len 0 n → All (λ s. made s ≡ 0) sealers → All (λ s. capacity s ≡ capacity_of plan.height) sealers
@@ -62,7 +63,8 @@ reported_of_run : (way : Way) (seals : Seals) (plan : Plan) (run : RunRecord) (v
     → verdict ≡ verdict_of (fits_for seals plan) run → text ≡ text_of_run (form_of way) plan run verdict → Reported run verdict text old new status
     → IsReportedOf way seals plan run old new status
 reported_of_run way seals plan run verdict text old new status examined printed reported =
-    subst (λ (v : Verdict). Reported run v (text_of_run (form_of way) plan run v) old new status) examined (subst (λ (t : List ℕ). Reported run verdict t old new status) printed reported)
+    subst (λ (v : Verdict). Reported run v (text_of_run (form_of way) plan run v) old new status) examined
+    (subst (λ (t : List ℕ). Reported run verdict t old new status) printed reported)
 
 clean_verdict : (run : RunRecord) (verdict : Verdict) → is_clean (status_of run verdict) ≡ true → (verdict ≡ IsDone) ⊎ (verdict ≡ IsStalled)
 clean_verdict run IsDone clean = inl refl
@@ -82,11 +84,13 @@ trace_passes : (way : Way) (seals : Seals) (plan : Plan) (run : RunRecord)
     → IsRunOf way seals plan run → IsLawfulRun (fits_for seals plan) run
     → first_unlawful_of (fits_in seals (trace_of_run plan run)) (trace_of_run plan run).run ≡ None
 trace_passes way seals plan run law played lawful =
-    subst (λ (s : Parameters). first_unlawful_of (seals.fits plan.seed plan.height s.n) (trace_of_run plan run).run ≡ None) (sym (setting_kept way seals plan run played))
+    subst (λ (s : Parameters). first_unlawful_of (seals.fits plan.seed plan.height s.n) (trace_of_run plan run).run ≡ None)
+    (sym (setting_kept way seals plan run played))
     (law (fits_for seals plan) run (span_of plan.views (Seed plan.seed) plan.height) lawful)
 
 -- a run that is lawful, whose text was made, keeps order
-pub order_kept : (way : Way) (seals : Seals) (bytes : List ℕ) (plan : Plan) (run : RunRecord) (verdict : Verdict) (text : List ℕ) (old new : Option (List ℕ)) (status : Status)
+pub order_kept : (way : Way) (seals : Seals) (bytes : List ℕ) (plan : Plan) (run : RunRecord) (verdict : Verdict) (text : List ℕ)
+    (old new : Option (List ℕ)) (status : Status)
     → ((fits : Check) (run : RunRecord) → IsSound fits run → IsOrdered run)
     → ((fits : Check) (run : RunRecord) → IsLawfulRun fits run → (verdict_of fits run ≡ IsDone) ⊎ (verdict_of fits run ≡ IsStalled) → IsOrdered run)
     → ((fits : Check) (run : RunRecord) (span : Span) → IsLawfulRun fits run → first_unlawful_of fits (bared run span).run ≡ None)
@@ -95,24 +99,25 @@ pub order_kept : (way : Way) (seals : Seals) (bytes : List ℕ) (plan : Plan) (r
     → (length (trace_text_of plan run) < 2 ^ 32 → IsTraced seals plan run (trace_text_of plan run))
     → (verdict_of (fits_for seals plan) run ≡ IsStalled → HadAll way seals plan run) → Progresses way seals plan run
     → KeepsOrder way seals (Some bytes) old new status run
-order_kept way seals bytes plan run verdict text old new status sound_law audited_law passes_law read rules played examined printed reported lawful traced spent progress = record {
-  plan = plan;
-  rules = rules;
-  read = read;
-  played = played;
-  reported = reported_of_run way seals plan run verdict text old new status examined printed reported;
-  spent = spent;
-  lawful = lawful;
-  passes = trace_passes way seals plan run passes_law played lawful;
-  traced = traced;
-  sound = sound_law (fits_for seals plan) run;
-  clean = λ clean. elim reported [
-    | inl all ↦ audited_law (fits_for seals plan) run lawful
-        (subst (λ (v : Verdict). (v ≡ IsDone) ⊎ (v ≡ IsStalled)) examined (clean_verdict run verdict (ap is_clean (sym all.0) ∙ clean)))
-    | inr prefix ↦ absurd (let wrong : is_clean WriteFault ≡ true = ap is_clean (sym prefix.0) ∙ clean in cc)
-  ];
-  progress = progress;
-}
+order_kept way seals bytes plan run verdict text old new status sound_law audited_law passes_law read rules played examined printed reported
+    lawful traced spent progress = record {
+      plan = plan;
+      rules = rules;
+      read = read;
+      played = played;
+      reported = reported_of_run way seals plan run verdict text old new status examined printed reported;
+      spent = spent;
+      lawful = lawful;
+      passes = trace_passes way seals plan run passes_law played lawful;
+      traced = traced;
+      sound = sound_law (fits_for seals plan) run;
+      clean = λ clean. elim reported [
+        | inl all ↦ audited_law (fits_for seals plan) run lawful
+            (subst (λ (v : Verdict). (v ≡ IsDone) ⊎ (v ≡ IsStalled)) examined (clean_verdict run verdict (ap is_clean (sym all.0) ∙ clean)))
+        | inr prefix ↦ absurd (let wrong : is_clean WriteFault ≡ true = ap is_clean (sym prefix.0) ∙ clean in cc)
+      ];
+      progress = progress;
+    }
 
 -- ---- turn by turn
 
@@ -122,7 +127,8 @@ pub lawful_by_turns : (seals : Seals) (bytes : List ℕ) (plan : Plan) (run : Ru
     → plan_of bytes ≡ Ok plan → KeepsRules plan → run ≡ run_of seals plan → IsReadableRun run → IsLawfulRun (fits_for seals plan) run
 unfolding run_of
 lawful_by_turns seals bytes plan run law read rules is readable =
-    subst (IsLawfulRun (fits_for seals plan)) (sym is) (law (fits_for seals plan) bytes plan (kit_for seals plan) read rules (made_for seals plan) (subst IsReadableRun is readable))
+    subst (IsLawfulRun (fits_for seals plan)) (sym is)
+    (law (fits_for seals plan) bytes plan (kit_for seals plan) read rules (made_for seals plan) (subst IsReadableRun is readable))
 
 pub spent_by_turns : (seals : Seals) (plan : Plan) (run : RunRecord)
     → ((fits : Check) (plan : Plan) (sealers : List Signer) → length sealers ≡ plan.setting.n → verdict_of fits (play_of fits plan sealers) ≡ IsStalled
@@ -131,12 +137,15 @@ pub spent_by_turns : (seals : Seals) (plan : Plan) (run : RunRecord)
 unfolding run_of last_world
 spent_by_turns seals plan run law is stalled =
     subst (WasSpent plan (last_of (fits_for seals plan) plan (kit_for seals plan))) (sym is)
-    (law (fits_for seals plan) plan (kit_for seals plan) (made_for seals plan).count (subst (λ (r : RunRecord). verdict_of (fits_for seals plan) r ≡ IsStalled) is stalled))
+    (law (fits_for seals plan) plan (kit_for seals plan) (made_for seals plan).count
+    (subst (λ (r : RunRecord). verdict_of (fits_for seals plan) r ≡ IsStalled) is stalled))
 
 -- ---- by what the source tells, and by the command
 
 -- what the source tells is what was read
-pub order_of_source : (way : Way) (seals : Seals) (left : Option (List ℕ)) (input : List ℕ) (old new : Option (List ℕ)) (status : Status) (given : Option RunRecord) → IfSome left (λ bytes. input ≡ bytes)
+pub order_of_source : (way : Way) (seals : Seals) (left : Option (List ℕ)) (input : List ℕ) (old new : Option (List ℕ))
+    (status : Status) (given : Option RunRecord)
+    → IfSome left (λ bytes. input ≡ bytes)
     → IfSome given (KeepsOrder way seals (Some input) old new status) → IfSome given (KeepsOrder way seals left old new status)
 order_of_source way seals left input old new status None same kept = tt
 order_of_source way seals left input old new status (Some run) same kept = record {
@@ -159,7 +168,8 @@ order_of_source way seals left input old new status (Some run) same kept = recor
     by (Some bytes) same = subst (λ (b : List ℕ). plan_of b ≡ Ok kept.plan) same kept.read
 
 -- what holds of a run that is given by one command is what holds of it by the command that the words name
-pub given_by_name : (words : List (String Global)) (command : Command) (seals : Seals) (left old new : Option (List ℕ)) (status : Status) (given : Option RunRecord)
+pub given_by_name : (words : List (String Global)) (command : Command) (seals : Seals) (left old new : Option (List ℕ)) (status : Status)
+    (given : Option RunRecord)
     → Names words command → IfSome given (HoldsOf command seals left old new status) → IfSome given (IsGiven words seals left old new status)
 given_by_name words command seals left old new status None is holds = tt
 given_by_name words command seals left old new status (Some run) is holds = (command, is, holds)

@@ -71,14 +71,18 @@ pub one_command : (words : List (String Global)) (a b : Command) → Names words
 one_command words a b p q = same_words a b p.0 q.0 (sym p.1 ∙ q.1)
 
 -- so what is so of a command that they name is so of each
-pub by_name : (words : List (String Global)) (named : Command) (P : Command → Type 0) → Names words named → P named → (command : Command) → Names words command → P command
+pub by_name : (words : List (String Global)) (named : Command) (P : Command → Type 0) → Names words named → P named → (command : Command)
+    → Names words command → P command
 by_name words named P is holds command other = subst P (one_command words named command is other) holds
 
 -- and whether they ask for a run is told by the command that is found
-pub asks : (words : List (String Global)) (found : Option Command) → IfSome found (Names words) → IfNone found (¬ AreWords words) → (found ≡ Some Run) ↔ Names words Run
+pub asks : (words : List (String Global)) (found : Option Command) → IfSome found (Names words) → IfNone found (¬ AreWords words)
+    → (found ≡ Some Run) ↔ Names words Run
 asks words None some none = (λ is. absurd (cc), λ named. absurd (none (Run, named)))
-asks words (Some command) some none = (λ is. let same : command ≡ Run = cc in subst (Names words) same some, λ named. ap (λ (c : Command). Some c) (one_command words command Run some named))
+asks words (Some command) some none =
+    (λ is. let same : command ≡ Run = cc in subst (Names words) same some, λ named. ap (λ (c : Command). Some c) (one_command words command Run some named))
 
 -- words that name a command are not answered as bad
-pub never_bad : (words : List (String Global)) (command : Command) (status : Status) → Names words command → (status ≡ BadWords → ⊥) → (status ≡ BadWords) ↔ (¬ AreWords words)
+pub never_bad : (words : List (String Global)) (command : Command) (status : Status) → Names words command → (status ≡ BadWords → ⊥)
+    → (status ≡ BadWords) ↔ (¬ AreWords words)
 never_bad words command status named never = (λ bad. absurd (never bad), λ none. absurd (none (command, named)))

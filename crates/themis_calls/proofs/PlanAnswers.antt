@@ -23,7 +23,8 @@ within_plans bytes (BadTrace at) within answers = answers
 within_plans bytes (Unlawful replica entry rule) within answers = answers
 
 -- the input that is not read to its end
-pub stopped_plans : (bytes : List ℕ) (used : ℕ) (status : Status) → is_unread status ≡ true → (status ≡ TooLong → used ≡ most_input + 1) → used ≤ length bytes → AnswersPlanInput bytes status
+pub stopped_plans : (bytes : List ℕ) (used : ℕ) (status : Status) → is_unread status ≡ true → (status ≡ TooLong → used ≡ most_input + 1)
+    → used ≤ length bytes → AnswersPlanInput bytes status
 stopped_plans bytes used Done unread long inside = absurd (cc)
 stopped_plans bytes used ReadFault unread long inside = tt
 stopped_plans bytes used WriteFault unread long inside = absurd (cc)

@@ -28,9 +28,11 @@ use Rattle.themis_calls.specs.Replayed.{Seals, Reported, fits_for, gives_for, ki
 pub record Laws : Type 0 where
   pub clean : (fits : Check) (gives : ℕ → Gives) (bytes : List ℕ) (plan : Plan) → plan_of bytes ≡ Ok plan → KeepsRules plan → SealsFit fits plan.setting.n gives
       → IsCleanPlan plan → (IsCollided (run_with fits gives plan) → ⊥) → HasProgressed fits (run_with fits gives plan)
-  pub nothing : (fits : Check) (plan : Plan) (sealers : List Signer) → AreMadeFor plan sealers → BringsNothing plan → HasNothingToDo fits (play_of fits plan sealers)
+  pub nothing : (fits : Check) (plan : Plan) (sealers : List Signer) → AreMadeFor plan sealers → BringsNothing plan
+      → HasNothingToDo fits (play_of fits plan sealers)
 
-pub laws_of : ((fits : Check) (gives : ℕ → Gives) (bytes : List ℕ) (plan : Plan) → plan_of bytes ≡ Ok plan → KeepsRules plan → SealsFit fits plan.setting.n gives
+pub laws_of : ((fits : Check) (gives : ℕ → Gives) (bytes : List ℕ) (plan : Plan) → plan_of bytes ≡ Ok plan → KeepsRules plan
+    → SealsFit fits plan.setting.n gives
     → IsCleanPlan plan → (IsCollided (run_with fits gives plan) → ⊥) → HasProgressed fits (run_with fits gives plan))
     → ((fits : Check) (plan : Plan) (sealers : List Signer) → AreMadeFor plan sealers → BringsNothing plan → HasNothingToDo fits (play_of fits plan sealers))
     → Laws
@@ -73,7 +75,8 @@ module _ (laws : Laws) (seals : Seals) (bytes : List ℕ) (plan : Plan) (run : R
 -- ---- an input that is not read to its end
 
 pub stopped_gets_on : (seals : Seals) (Reads : Type 0) (status : Status) (bytes : List ℕ) (used : ℕ) → is_unread status ≡ true
-    → (status ≡ TooLong → used ≡ most_input + 1) → (status ≡ ReadFault → Reads) → used ≤ length bytes → (Reads → ⊥) → ReadsAsClean seals bytes → IsDoneUnlessFailed status
+    → (status ≡ TooLong → used ≡ most_input + 1) → (status ≡ ReadFault → Reads) → used ≤ length bytes → (Reads → ⊥)
+    → ReadsAsClean seals bytes → IsDoneUnlessFailed status
 stopped_gets_on seals Reads Done bytes used unread long reads inside none clean = absurd (cc)
 stopped_gets_on seals Reads ReadFault bytes used unread long reads inside none clean = absurd (none (reads refl))
 stopped_gets_on seals Reads WriteFault bytes used unread long reads inside none clean = absurd (cc)

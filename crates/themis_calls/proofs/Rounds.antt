@@ -49,18 +49,21 @@ module _ (fits : Check) (plan : Plan) (gives : ℕ → Gives) (capacity : ℕ) (
         | inr honest ↦ rw honest (held (due_of plan.setting.n plan.faulty run.arrivals) run.batches r _ (ran.shown.batches r below) (done r below honest))
       ]
 
-      over : (at count : ℕ) → at + count ≤ plan.setting.n → list_all (λ r. is_among plan.faulty r || lists_all run (due_of plan.setting.n plan.faulty run.arrivals) r) (range_with_len at count) ≡ true
+      over : (at count : ℕ) → at + count ≤ plan.setting.n
+          → list_all (λ r. is_among plan.faulty r || lists_all run (due_of plan.setting.n plan.faulty run.arrivals) r) (range_with_len at count) ≡ true
       over at zero within = refl
       over at (suc count) within = rw (one at (omega (arith, within))) (over (at + 1) count (omega (arith, within)))
 
       each : list_all (λ r. is_among plan.faulty r || lists_all run (due_of plan.setting.n plan.faulty run.arrivals) r) (range_with_len 0 plan.setting.n) ≡ true
       each = over 0 plan.setting.n (omega arith)
 
-pub spent_in_rounds : (seals : Seals) (plan : Plan) (run : RunRecord) → IsRunOf InRounds seals plan run → verdict_of (fits_for seals plan) run ≡ IsStalled → HadAll InRounds seals plan run
+pub spent_in_rounds : (seals : Seals) (plan : Plan) (run : RunRecord) → IsRunOf InRounds seals plan run
+    → verdict_of (fits_for seals plan) run ≡ IsStalled → HadAll InRounds seals plan run
 unfolding verdict_of
 spent_in_rounds seals plan run ran stalled = elim ran.ended.cause [
   | inl done ↦
-      let open_yet : is_record_done run ≡ false = stalled_not_done (first_forged_of (fits_for seals plan) run) (first_collision_of run) (is_record_done run) stalled in
+      let open_yet : is_record_done run ≡ false =
+      stalled_not_done (first_forged_of (fits_for seals plan) run) (first_collision_of run) (is_record_done run) stalled in
       let closed : is_record_done run ≡ true = record_is_done (fits_for seals plan) plan (gives_for seals plan) (capacity_of plan.height) run ran done in
       absurd (cc)
   | inr spent ↦ spent
@@ -69,9 +72,11 @@ spent_in_rounds seals plan run ran stalled = elim ran.ended.cause [
 -- ---- whose run it is
 
 -- what is so of a run with each kit of new sealers is so with that of the maker
-pub of_kit : {S : Type 0} (replica capacity made : S → ℕ) (own : S → Gives) (seals : Seals) (plan : Plan) (n : ℕ) (sealers : List S) (P : (ℕ → Gives) → ℕ → Type 0)
+pub of_kit : {S : Type 0} (replica capacity made : S → ℕ) (own : S → Gives) (seals : Seals) (plan : Plan) (n : ℕ) (sealers : List S)
+    (P : (ℕ → Gives) → ℕ → Type 0)
     → n ≡ plan.setting.n
-    → ((gives : ℕ → Gives) (full : ℕ) → map (λ s. signer (replica s) (capacity s) (own s) (made s)) sealers ≡ map (λ at. signer at full (gives at) 0) (range_with_len 0 plan.setting.n) → P gives full)
+    → ((gives : ℕ → Gives) (full : ℕ) → map (λ s. signer (replica s) (capacity s) (own s) (made s)) sealers
+    ≡ map (λ at. signer at full (gives at) 0) (range_with_len 0 plan.setting.n) → P gives full)
     → map replica sealers ≡ range_with_len 0 n → All (λ s. made s ≡ 0) sealers → All (λ s. capacity s ≡ capacity_of plan.height) sealers
     → All (λ s. own s ≡ seals.gives plan.seed plan.height n (replica s)) sealers
     → P (gives_for seals plan) (capacity_of plan.height)
@@ -79,7 +84,8 @@ of_kit replica capacity made own seals plan n sealers P as_many each numbers fre
   where
     kit : map (λ s. signer (replica s) (capacity s) (own s) (made s)) sealers ≡ kit_for seals plan
     kit =
-        made_kit replica capacity made own (gives_for seals plan) (capacity_of plan.height) plan.setting.n sealers (numbers ∙ ap (range_with_len 0) as_many) fresh room
+        made_kit replica capacity made own (gives_for seals plan) (capacity_of plan.height) plan.setting.n sealers
+        (numbers ∙ ap (range_with_len 0) as_many) fresh room
         (subst (λ (k : ℕ). All (λ s. own s ≡ seals.gives plan.seed plan.height k (replica s)) sealers) as_many gives)
 
 -- and by the maker's checker

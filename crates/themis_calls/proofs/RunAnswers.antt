@@ -26,17 +26,22 @@ whole way seals bytes given (IsForged at) text old new played took = (IsForged a
 whole way seals bytes given (IsCollided at) text old new played took = (IsCollided at, text, played, refl, took)
 
 -- a run whose text was made
-pub reported_answers : (way : Way) (seals : Seals) (bytes : List ℕ) (plan : Plan) (run : RunRecord) (verdict : Verdict) (text : List ℕ) (old new : Option (List ℕ)) (status : Status)
-    → plan_of bytes ≡ Ok plan → IsRunOf way seals plan run → verdict ≡ verdict_of (fits_for seals plan) run → text ≡ text_of_run (form_of way) plan run verdict → Reported run verdict text old new status → AnswersRun way seals bytes (Some run) old new status
+pub reported_answers : (way : Way) (seals : Seals) (bytes : List ℕ) (plan : Plan) (run : RunRecord) (verdict : Verdict) (text : List ℕ)
+    (old new : Option (List ℕ)) (status : Status)
+    → plan_of bytes ≡ Ok plan → IsRunOf way seals plan run → verdict ≡ verdict_of (fits_for seals plan) run
+    → text ≡ text_of_run (form_of way) plan run verdict → Reported run verdict text old new status
+    → AnswersRun way seals bytes (Some run) old new status
 reported_answers way seals bytes plan run verdict text old new status is is_run examined printed reported =
-    let played : IsPlayed way seals bytes (Some run) verdict text = record { plan = plan; read = is; run = run; is_given = refl; played = is_run; examined = examined; printed = printed } in
+    let played : IsPlayed way seals bytes (Some run) verdict text =
+    record { plan = plan; read = is; run = run; is_given = refl; played = is_run; examined = examined; printed = printed } in
     elim reported [
       | inl all ↦ subst (AnswersRun way seals bytes (Some run) old new) (sym all.0) (whole way seals bytes (Some run) verdict text old new played all.1)
       | inr prefix ↦ subst (AnswersRun way seals bytes (Some run) old new) (sym prefix.0) (verdict, text, played, prefix.1)
     ]
 
 -- the input that is not read to its end
-stopped_runs : (way : Way) (seals : Seals) (bytes : List ℕ) (given : Option RunRecord) (old new : Option (List ℕ)) (status : Status) → is_unread status ≡ true → new ≡ old → AnswersRun way seals bytes given old new status
+stopped_runs : (way : Way) (seals : Seals) (bytes : List ℕ) (given : Option RunRecord) (old new : Option (List ℕ)) (status : Status)
+    → is_unread status ≡ true → new ≡ old → AnswersRun way seals bytes given old new status
 stopped_runs way seals bytes given old new Done unread same = absurd (cc)
 stopped_runs way seals bytes given old new ReadFault unread same = same
 stopped_runs way seals bytes given old new WriteFault unread same = absurd (cc)
@@ -53,7 +58,8 @@ stopped_runs way seals bytes given old new (Unlawful replica entry rule) unread 
 
 -- ---- what is answered is due, where nothing failed
 
-ended_so : (way : Way) (seals : Seals) (bytes : List ℕ) (given : Option RunRecord) (old new : Option (List ℕ)) (status : Status) → IsReported way seals bytes given old new status → EndsSo way seals bytes status
+ended_so : (way : Way) (seals : Seals) (bytes : List ℕ) (given : Option RunRecord) (old new : Option (List ℕ)) (status : Status)
+    → IsReported way seals bytes given old new status → EndsSo way seals bytes status
 ended_so way seals bytes given old new status reported =
     let played = reported.2 in (played.plan, played.run, played.read, played.played, reported.3 ∙ ap (status_of played.run) played.examined)
 
@@ -67,16 +73,19 @@ run_is_due way seals bytes given old new BadWords planned answers reads writes =
 run_is_due way seals bytes given old new (BadPlan fault) planned answers reads writes = inr planned
 run_is_due way seals bytes given old new TooLong planned answers reads writes = inr planned
 run_is_due way seals bytes given old new (Open u v) planned answers reads writes = absurd answers
-run_is_due way seals bytes given old new (Stalled turns ticks) planned answers reads writes = inr (planned.0, ended_so way seals bytes given old new (Stalled turns ticks) answers)
+run_is_due way seals bytes given old new (Stalled turns ticks) planned answers reads writes =
+    inr (planned.0, ended_so way seals bytes given old new (Stalled turns ticks) answers)
 run_is_due way seals bytes given old new (Forged at) planned answers reads writes = inr (planned.0, ended_so way seals bytes given old new (Forged at) answers)
-run_is_due way seals bytes given old new (Collided at) planned answers reads writes = inr (planned.0, ended_so way seals bytes given old new (Collided at) answers)
+run_is_due way seals bytes given old new (Collided at) planned answers reads writes =
+    inr (planned.0, ended_so way seals bytes given old new (Collided at) answers)
 run_is_due way seals bytes given old new NoMemory planned answers reads writes = inl refl
 run_is_due way seals bytes given old new (BadTrace at) planned answers reads writes = absurd answers
 run_is_due way seals bytes given old new (Unlawful replica entry rule) planned answers reads writes = absurd answers
 
 -- ---- all that is answered
 
-pub read_plays : (way : Way) (seals : Seals) (SourceRose SinkRose : Type 0) (left : Option (List ℕ)) (input : List ℕ) (given : Option RunRecord) (old new : Option (List ℕ)) (status : Status)
+pub read_plays : (way : Way) (seals : Seals) (SourceRose SinkRose : Type 0) (left : Option (List ℕ)) (input : List ℕ)
+    (given : Option RunRecord) (old new : Option (List ℕ)) (status : Status)
     → IfSome left (λ bytes. input ≡ bytes) → length input ≤ most_input → (status ≡ ReadFault → ⊥) → (status ≡ WriteFault → SinkRose)
     → AnswersPlan input status → AnswersRun way seals input given old new status → GetsOn way seals input status
     → IfSome left (λ bytes. PlaysPlan way seals SourceRose SinkRose bytes given old new status)
@@ -92,8 +101,10 @@ read_plays way seals SourceRose SinkRose (Some bytes) input given old new status
     plan : AnswersPlanInput input status
     plan = within_plans input status within planned
 
-pub unread_plays : (way : Way) (seals : Seals) (SourceRose SinkRose : Type 0) (left : Option (List ℕ)) (used : ℕ) (given : Option RunRecord) (old new : Option (List ℕ)) (status : Status)
-    → is_unread status ≡ true → (status ≡ TooLong → used ≡ most_input + 1) → (status ≡ ReadFault → SourceRose) → IfSome left (λ bytes. used ≤ length bytes) → new ≡ old
+pub unread_plays : (way : Way) (seals : Seals) (SourceRose SinkRose : Type 0) (left : Option (List ℕ)) (used : ℕ) (given : Option RunRecord)
+    (old new : Option (List ℕ)) (status : Status)
+    → is_unread status ≡ true → (status ≡ TooLong → used ≡ most_input + 1) → (status ≡ ReadFault → SourceRose)
+    → IfSome left (λ bytes. used ≤ length bytes) → new ≡ old
     → IfSome left (λ bytes. PlaysPlan way seals SourceRose SinkRose bytes given old new status)
 unread_plays way seals SourceRose SinkRose None used given old new status unread long reads within same = tt
 unread_plays way seals SourceRose SinkRose (Some bytes) used given old new status unread long reads within same = record {

@@ -40,7 +40,8 @@ pub record Laws : Type 0 where
   pub verdict : (fits : Check) (run : RunRecord) (span : Span) → run.setting.n ≤ length run.batches → verdict_of fits (bared run span).run ≡ verdict_of fits run
 
 -- what is due to a text that is read so
-due_is : (seals : Seals) (text : List ℕ) (trace : Trace) (verdict : Verdict) → read_of text ≡ Ok trace → finding_of (fits_in seals trace) trace.run ≡ shown_by verdict
+due_is : (seals : Seals) (text : List ℕ) (trace : Trace) (verdict : Verdict) → read_of text ≡ Ok trace
+    → finding_of (fits_in seals trace) trace.run ≡ shown_by verdict
     → length text ≤ most_trace → (status : Status) → IsAuditDue seals text status → status ≡ status_found (shown_by verdict)
 due_is seals text trace verdict read found within status due = elim due [
   | inl long ↦ absurd (omega (arith, within, long.1))
@@ -53,7 +54,8 @@ due_is seals text trace verdict read found within status due = elim due [
 ]
 
 pub traced : (laws : Laws) (way : Way) (seals : Seals) (plan : Plan) (run : RunRecord) → IsRunOf way seals plan run → IsLawfulRun (fits_for seals plan) run
-    → FitsForm run (span_of plan.views (Seed plan.seed) plan.height) → length (trace_text_of plan run) < 2 ^ 32 → IsTraced seals plan run (trace_text_of plan run)
+    → FitsForm run (span_of plan.views (Seed plan.seed) plan.height) → length (trace_text_of plan run) < 2 ^ 32
+    → IsTraced seals plan run (trace_text_of plan run)
 unfolding finding_of
 traced laws way seals plan run played lawful form short = record {
   spelled = spelled;
@@ -83,12 +85,14 @@ traced laws way seals plan run played lawful form short = record {
         ∙ ap shown_by (laws.verdict fits run span (omega (arith, form.each_batch)))
 
     found : finding_of (fits_in seals trace) trace.run ≡ shown_by (verdict_of fits run)
-    found = subst (λ (s : Parameters). finding_of (seals.fits plan.seed plan.height s.n) trace.run ≡ shown_by (verdict_of fits run)) (sym (setting_kept way seals plan run played)) by_fits
+    found = subst (λ (s : Parameters). finding_of (seals.fits plan.seed plan.height s.n) trace.run ≡ shown_by (verdict_of fits run))
+        (sym (setting_kept way seals plan run played)) by_fits
 
 -- ---- turn by turn
 
 pub form_by_turns : (seals : Seals) (bytes : List ℕ) (plan : Plan) (run : RunRecord)
-    → ((fits : Check) (plan : Plan) (sealers : List Signer) → KeepsRules plan → AreMadeFor plan sealers → HasArrivalLists plan → FitsForm (play_of fits plan sealers) (span_of plan.views (Seed plan.seed) plan.height))
+    → ((fits : Check) (plan : Plan) (sealers : List Signer) → KeepsRules plan → AreMadeFor plan sealers → HasArrivalLists plan
+    → FitsForm (play_of fits plan sealers) (span_of plan.views (Seed plan.seed) plan.height))
     → ((bytes : List ℕ) (plan : Plan) (r : ℕ) → plan_of bytes ≡ Ok plan → KeepsRules plan → r < plan.setting.n → IsArrivalList (txs_of (timed_for plan r)))
     → plan_of bytes ≡ Ok plan → KeepsRules plan → run ≡ run_of seals plan → FitsForm run (span_of plan.views (Seed plan.seed) plan.height)
 unfolding run_of

@@ -26,8 +26,11 @@ pub record OrdersText (form : Form) (SourceRose SinkRose : Type 0) (bytes : List
 abbrev pub AnswersOf : Command → Seals → Type 0 → Type 0 → Option (List ℕ) → Option RunRecord → Option (List ℕ) → Option (List ℕ) → Status → Type 0
 AnswersOf Order seals SourceRose SinkRose left given old new status = IfSome left (λ bytes. OrdersText Batches SourceRose SinkRose bytes old new status)
 AnswersOf Line seals SourceRose SinkRose left given old new status = IfSome left (λ bytes. OrdersText Lines SourceRose SinkRose bytes old new status)
-AnswersOf Replay seals SourceRose SinkRose left given old new status = IfSome left (λ bytes. PlaysPlan (ByTurns Report) seals SourceRose SinkRose bytes given old new status)
-AnswersOf Run seals SourceRose SinkRose left given old new status = IfSome left (λ bytes. PlaysPlan InRounds seals SourceRose SinkRose bytes given old new status)
-AnswersOf Trace seals SourceRose SinkRose left given old new status = IfSome left (λ bytes. PlaysPlan (ByTurns Record) seals SourceRose SinkRose bytes given old new status)
+AnswersOf Replay seals SourceRose SinkRose left given old new status =
+    IfSome left (λ bytes. PlaysPlan (ByTurns Report) seals SourceRose SinkRose bytes given old new status)
+AnswersOf Run seals SourceRose SinkRose left given old new status =
+    IfSome left (λ bytes. PlaysPlan InRounds seals SourceRose SinkRose bytes given old new status)
+AnswersOf Trace seals SourceRose SinkRose left given old new status =
+    IfSome left (λ bytes. PlaysPlan (ByTurns Record) seals SourceRose SinkRose bytes given old new status)
 AnswersOf Audit seals SourceRose SinkRose left given old new status = IfSome left (λ bytes. AuditsTrace seals SourceRose SinkRose bytes given old new status)
 AnswersOf (Make seed count) seals SourceRose SinkRose left given old new status = AnswersMade seed count old new status

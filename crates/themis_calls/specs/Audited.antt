@@ -103,7 +103,8 @@ IsAuditDue seals bytes status =
     × (((at : ℕ) × (status ≡ BadTrace at) × (read_of bytes ≡ Err at)) ⊎ IsFoundSo seals bytes status))
 
 -- The answer to these bytes, by whether the counts of faults of the source and the sink rose.
-pub record AuditsTrace (seals : Seals) (SourceRose SinkRose : Type 0) (bytes : List ℕ) (given : Option RunRecord) (old new : Option (List ℕ)) (status : Status) : Type 0 where
+pub record AuditsTrace (seals : Seals) (SourceRose SinkRose : Type 0) (bytes : List ℕ) (given : Option RunRecord)
+    (old new : Option (List ℕ)) (status : Status) : Type 0 where
   -- which fault is returned, or which finding on which record, and which text is written
   pub answers : AnswersAudit seals bytes given old new status
   -- if no count rises, exactly that, unless memory runs out

@@ -37,7 +37,8 @@ pub record UsesSink {K : Type 0} (sink sink' : K) (faults faults' : ℕ) (status
 
 -- The rules of a command, the source before and after, and what is left in it: how the command may end, whether it
 -- reads, whether it gives a run, the limit, and the end of the input.
-pub record EndsBy (rules : Rules) {S : Type 0} (source source' : S) (left : Option (List ℕ)) (given : Option RunRecord) (used : ℕ) (status : Status) : Type 0 where
+pub record EndsBy (rules : Rules) {S : Type 0} (source source' : S) (left : Option (List ℕ)) (given : Option RunRecord) (used : ℕ)
+    (status : Status) : Type 0 where
   pub ends : rules.ends status ≡ true
   pub quiet : rules.reads ≡ false → (used ≡ 0) × (source' ≡ source)
   pub run : is_some given ≡ (rules.gives && has_run status)

@@ -13,7 +13,8 @@ GetsOn (ByTurns form) seals bytes status = ReadsAsClean seals bytes → IsDoneUn
 GetsOn InRounds seals bytes status = Unit {0}
 
 -- The answer to these bytes, by whether the counts of faults of the source and the sink rose.
-pub record PlaysPlan (way : Way) (seals : Seals) (SourceRose SinkRose : Type 0) (bytes : List ℕ) (given : Option RunRecord) (old new : Option (List ℕ)) (status : Status) : Type 0 where
+pub record PlaysPlan (way : Way) (seals : Seals) (SourceRose SinkRose : Type 0) (bytes : List ℕ) (given : Option RunRecord)
+    (old new : Option (List ℕ)) (status : Status) : Type 0 where
   -- which plan is run, or which fault is returned
   pub plan : AnswersPlanInput bytes status
   -- which run is given, and which text is written of it

@@ -111,7 +111,8 @@ IsReported way seals bytes given old new status =
 abbrev pub AnswersRun : Way → Seals → List ℕ → Option RunRecord → Option (List ℕ) → Option (List ℕ) → Status → Type 0
 AnswersRun way seals bytes given old new Done = IsReported way seals bytes given old new Done
 AnswersRun way seals bytes given old new ReadFault = new ≡ old
-AnswersRun way seals bytes given old new WriteFault = (verdict : Verdict) × (text : List ℕ) × IsPlayed way seals bytes given verdict text × TookSome text old new
+AnswersRun way seals bytes given old new WriteFault =
+    (verdict : Verdict) × (text : List ℕ) × IsPlayed way seals bytes given verdict text × TookSome text old new
 AnswersRun way seals bytes given old new BadWords = ⊥
 AnswersRun way seals bytes given old new (BadPlan fault) = new ≡ old
 AnswersRun way seals bytes given old new TooLong = new ≡ old

@@ -44,9 +44,21 @@ no_facts = record {
 
 -- each status with its number and with what holds of it: what is not named does not hold
 abbrev pub facts_of : Status → Facts
-facts_of Done = record no_facts { number = 0; read = true; written = true; given = true; clean = true; ends_order = true; ends_replay = true; ends_make = true; ends_audit = true }
+facts_of Done =
+    record no_facts {
+      number = 0;
+      read = true;
+      written = true;
+      given = true;
+      clean = true;
+      ends_order = true;
+      ends_replay = true;
+      ends_make = true;
+      ends_audit = true;
+    }
 facts_of ReadFault = record no_facts { number = 1; unread = true; ends_order = true; ends_replay = true; ends_audit = true }
-facts_of WriteFault = record no_facts { number = 2; read = true; written = true; given = true; ends_order = true; ends_replay = true; ends_make = true; ends_audit = true }
+facts_of WriteFault =
+    record no_facts { number = 2; read = true; written = true; given = true; ends_order = true; ends_replay = true; ends_make = true; ends_audit = true }
 facts_of BadWords = record no_facts { number = 3 }
 facts_of (BadPlan fault) = record no_facts { number = 4; read = true; ends_order = true; ends_replay = true }
 facts_of TooLong = record no_facts { number = 5; unread = true; ends_order = true; ends_replay = true; ends_audit = true }

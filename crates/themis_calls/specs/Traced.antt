@@ -27,4 +27,5 @@ pub record IsTraced (seals : Seals) (plan : Plan) (run : RunRecord) (text : List
   pub found : finding_of (fits_in seals (trace_of_run plan run)) (trace_of_run plan run).run ≡ shown_by (verdict_of (fits_for seals plan) run)
   -- so an audit of it ends with the status of the verdict, Done if that is Done or Stalled, unless the text is too long
   -- for it
-  pub audit : length text ≤ most_trace → (status : Status) → IsAuditDue seals text status → status ≡ status_found (shown_by (verdict_of (fits_for seals plan) run))
+  pub audit : length text ≤ most_trace → (status : Status) → IsAuditDue seals text status
+      → status ≡ status_found (shown_by (verdict_of (fits_for seals plan) run))

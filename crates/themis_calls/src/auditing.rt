@@ -32,7 +32,8 @@ pub(crate) fn audit<K: Sink, M: CheckerMaker>(
 ) -> (Status, Option<RunRecord>)
     // What is written and returned of each input, and what holds of the record that is returned.
     ensures text { AnswersAudit (seals_of M.SealMaker M.keys_fit maker.now) input.now result.1 (K.written sink.old) (K.written sink.new) result.0 }
-    ensures headline { IfSome result.1 (KeepsAudit (seals_of M.SealMaker M.keys_fit maker.now) (Some input.now) (K.written sink.old) (K.written sink.new) result.0) }
+    ensures headline { IfSome result.1
+        (KeepsAudit (seals_of M.SealMaker M.keys_fit maker.now) (Some input.now) (K.written sink.old) (K.written sink.new) result.0) }
     // The status is one of the command's own, one without reading only where memory ran out, and one with a run exactly
     // if a run is returned.
     ensures ends { ends_audit result.0 ≡ true }

@@ -148,7 +148,8 @@ fn obey<S: Source, K: Sink, M: CheckerMaker>(
     ensures answers { AnswersOf command (seals_of M.SealMaker M.keys_fit maker.now)
         (SourceFailed S.Source source.old source.new) (SinkFailed K.Sink sink.old sink.new)
         (S.left source.old) result.run (K.written sink.old) (K.written sink.new) result.status }
-    ensures headline { IfSome result.run (HoldsOf command (seals_of M.SealMaker M.keys_fit maker.now) (S.left source.old) (K.written sink.old) (K.written sink.new) result.status) }
+    ensures headline { IfSome result.run
+        (HoldsOf command (seals_of M.SealMaker M.keys_fit maker.now) (S.left source.old) (K.written sink.old) (K.written sink.new) result.status) }
 {
     match command {
         Command::Order => over_order_text(alloc, Form::Batches, source, sink),

@@ -61,7 +61,8 @@ timed_by most (a ∷ bs) h = turn_by most a.turn a.txs (timed bs) h.0 (timed_by 
 
 arrivals_by : (most at : ℕ) (bs : List Arrival) → IsBy most bs → AreBy most (arrivals_for bs at)
 unfolding arrivals_for
-arrivals_by most at bs h = timed_by most (by_turn (filter (λ a. a.replica == at) bs)) (sorted_by most (filter (λ a. a.replica == at) bs) [] (some_by most at bs h) tt)
+arrivals_by most at bs h = timed_by most (by_turn (filter (λ a. a.replica == at) bs))
+    (sorted_by most (filter (λ a. a.replica == at) bs) [] (some_by most at bs h) tt)
 
 after_by : (most : ℕ) (xs ys : List TimedTx) → AreBy most (xs ++ ys) → AreBy most ys
 after_by most [] ys h = h
@@ -90,7 +91,8 @@ pub record SoManyEnded (k : ℕ) (old new : List ClientWorker) : Type 0 where
 pub ended_none : (cs : List ClientWorker) → SoManyEnded 0 cs cs
 ended_none cs = record { ends = λ at d lt. absurd (omega (arith, lt)); others = λ at d le. refl; count = refl }
 
-pub ended_more : (k : ℕ) (old mid : List ClientWorker) (r c : ClientWorker) → SoManyEnded k old mid → k < length mid → r ≡ get_or mid k r → Completes r c → SoManyEnded (k + 1) old (slice_set mid k c)
+pub ended_more : (k : ℕ) (old mid : List ClientWorker) (r c : ClientWorker) → SoManyEnded k old mid → k < length mid → r ≡ get_or mid k r
+    → Completes r c → SoManyEnded (k + 1) old (slice_set mid k c)
 ended_more k old mid r c so lt value ends = record {
   ends = λ at d below. elim (cases_Bool (k == at)) [
     | inl yes_so ↦ (
@@ -110,7 +112,9 @@ ended_more k old mid r c so lt value ends = record {
 }
 
 pub ended_all : (k : ℕ) (old new : List ClientWorker) → length old ≤ k → SoManyEnded k old new → AllZip Completes old new
-ended_all k old new le so = zip_from Completes old new (sym so.count) (λ i d e lt. (let same = get_or_default new i e d (let n = so.count in omega (arith, lt, n)) in subst (Completes (get_or old i d)) (sym same) (so.ends i d (omega (arith, lt, le)))))
+ended_all k old new le so = zip_from Completes old new (sym so.count)
+    (λ i d e lt. (let same = get_or_default new i e d (let n = so.count in omega (arith, lt, n)) in
+    subst (Completes (get_or old i d)) (sym same) (so.ends i d (omega (arith, lt, le)))))
 
 -- ---- and then the driver
 
@@ -118,12 +122,16 @@ remains_ended : (c d : ClientWorker) → Completes c d → Remains c d
 remains_ended c d e = (e.0, e.1)
 
 module _ {S : Type 0} where
-  pub ended_manned : (plan : Plan) (old new : Run S) → IsManned plan old → HasEnded old new → All (OfClient old.world.logs.items) new.clients.items → IsManned plan new
+  pub ended_manned : (plan : Plan) (old new : Run S) → IsManned plan old → HasEnded old new
+      → All (OfClient old.world.logs.items) new.clients.items → IsManned plan new
   ended_manned plan old new m e of =
-      manned_on plan old old.workers.items new.clients.items old.drivers.items m (serve_self old.workers.items) (zip_map Completes Remains remains_ended old.clients.items new.clients.items e.ended) m.ready of
-      m.drivers m.parts m.given new (ap (λ (r : Run S). r.world) e.same) (ap (λ (r : Run S). r.due) e.same) (ap (λ (r : Run S). r.workers.items) e.same) refl (ap (λ (r : Run S). r.drivers.items) e.same)
+      manned_on plan old old.workers.items new.clients.items old.drivers.items m (serve_self old.workers.items)
+      (zip_map Completes Remains remains_ended old.clients.items new.clients.items e.ended) m.ready of
+      m.drivers m.parts m.given new (ap (λ (r : Run S). r.world) e.same) (ap (λ (r : Run S). r.due) e.same)
+      (ap (λ (r : Run S). r.workers.items) e.same) refl (ap (λ (r : Run S). r.drivers.items) e.same)
 
-  module _ (plan : Plan) (rules : KeepsRules plan) (turns : ℕ) (late : 200000 ≤ turns) (old mid new : Run S) (over : HasEnded old mid) (manned : IsManned plan mid) (h : HasHeard plan turns mid new) where
+  module _ (plan : Plan) (rules : KeepsRules plan) (turns : ℕ) (late : 200000 ≤ turns) (old mid new : Run S) (over : HasEnded old mid)
+      (manned : IsManned plan mid) (h : HasHeard plan turns mid new) where
     z : AllZip Completes old.clients.items mid.clients.items
     z = over.ended
 
@@ -144,7 +152,8 @@ module _ {S : Type 0} where
           let left = ap (λ (f : Fed). f.left) sub.1 in
           let all : AreBy 200000 (arrivals_for plan.arrivals at) = arrivals_by 200000 at plan.arrivals (rules_by plan.setting.n plan.arrivals rules.arrivals) in
           let rest : AreBy 200000 a.feed.left = after_by 200000 had.given a.feed.left (subst (AreBy 200000) had.all_is all) in
-          let later : AllByRecursion (IsLate turns) b.feed.left = subst (AllByRecursion (IsLate turns)) (sym left) (later_left turns plan.arrivals at had.given a.feed.left had.all_is) in
+          let later : AllByRecursion (IsLate turns) b.feed.left =
+          subst (AllByRecursion (IsLate turns)) (sym left) (later_left turns plan.arrivals at had.given a.feed.left had.all_is) in
           let by : AreBy 200000 b.feed.left = subst (AreBy 200000) (sym left) (drop_by 200000 _ a.feed.left rest) in
           ap (λ (f : Fed). f.left) heard.feed ∙ none_late turns b.feed.left late later by;
     }
@@ -155,7 +164,8 @@ module _ {S : Type 0} where
       after = subst (λ (r : Run S). SubmitsAfter r.workers.items r.drivers.items new.drivers.items) same h.after;
       taken = λ t.
           let took : AllTaken mid.drivers.items mid.clients.items = taken_heard plan turns mid new h t in record {
-            drivers_took = subst (λ (ds : List Driver). (at : ℕ) (d : Driver) → slice_get ds at ≡ Some d → d.fault ≡ None) (ap (λ (r : Run S). r.drivers.items) same) took.drivers_took;
+            drivers_took = subst (λ (ds : List Driver). (at : ℕ) (d : Driver) → slice_get ds at ≡ Some d → d.fault ≡ None)
+                (ap (λ (r : Run S). r.drivers.items) same) took.drivers_took;
             clients_took = λ k c is.
                 let (d, here, ended) = zip_there Completes old.clients.items mid.clients.items k c z is in
                 (ended.2 (took.clients_took k d here)).0;

@@ -47,7 +47,8 @@ timed_rise low (a ∷ others) h = one_turn low a.turn a.txs (timed others) h.0 (
 
 arrivals_rise : (arrivals : List Arrival) (at : ℕ) → RisesTimed 0 (arrivals_for arrivals at)
 unfolding arrivals_for
-arrivals_rise arrivals at = timed_rise 0 (arrivals_at arrivals at) (all_rise (Rattle.std.specs.Prelude.filter (λ a. Rattle.std.specs.Prelude.nat_eq a.replica at) arrivals) [] tt)
+arrivals_rise arrivals at = timed_rise 0 (arrivals_at arrivals at)
+    (all_rise (Rattle.std.specs.Prelude.filter (λ a. Rattle.std.specs.Prelude.nat_eq a.replica at) arrivals) [] tt)
 
 following : (low : ℕ) (xs ys : List TimedTx) → RisesTimed low (xs ++ ys) → (high : ℕ) × RisesTimed high ys
 following low [] ys h = (low, h)
@@ -77,5 +78,7 @@ module _ (turns : ℕ) where
   ]
 
   -- what is left of a replica's arrivals, once what arrived by a count of turns was given, comes later
-  pub later_left : (arrivals : List Arrival) (at : ℕ) (given left : List TimedTx) → arrivals_for arrivals at ≡ given ++ left → AllByRecursion IsLate (drop (prefix_len (λ t. nat_le t.turn turns) left) left)
-  later_left arrivals at given left is = (let (low, rises) = following 0 given left (subst (RisesTimed 0) is (arrivals_rise arrivals at)) in left_late low left rises)
+  pub later_left : (arrivals : List Arrival) (at : ℕ) (given left : List TimedTx) → arrivals_for arrivals at ≡ given ++ left
+      → AllByRecursion IsLate (drop (prefix_len (λ t. nat_le t.turn turns) left) left)
+  later_left arrivals at given left is =
+      (let (low, rises) = following 0 given left (subst (RisesTimed 0) is (arrivals_rise arrivals at)) in left_late low left rises)

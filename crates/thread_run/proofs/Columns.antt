@@ -29,14 +29,18 @@ module _ {X : Type 0} where
   next_length n ([] ∷ rows) all = (let len : 0 ≡ suc n = All-head (λ row. length row ≡ suc n) [] rows all in absurd (omega (arith, len)))
   next_length n ((x ∷ row) ∷ rows) all =
       let len : suc (length row) ≡ suc n = All-head (λ row. length row ≡ suc n) (x ∷ row) rows all in
-      All-cons (λ row. length row ≡ n) row (later_columns rows) (omega (arith, len)) (next_length n rows (All-tail (λ row. length row ≡ suc n) (x ∷ row) rows all))
+      All-cons (λ row. length row ≡ n) row (later_columns rows) (omega (arith, len))
+      (next_length n rows (All-tail (λ row. length row ≡ suc n) (x ∷ row) rows all))
 
   some_length : (n : ℕ) (rows : List (List X)) → All (λ row. length row ≡ suc n) rows → All (λ row. 0 < length row) rows
   some_length n rows all = λ k d lt. (let len = all k d lt in omega (arith, len))
 
 -- what is so of the passes of each log, log by log
-pub can_finish : (ls : List Log) (ds : List Driver) (os : List (Known Tx)) (rows : List (List (Known Tx))) → length ds ≡ length ls → length os ≡ length ls → All (λ row. length row ≡ length ls) rows
-    → ((k : ℕ) (l : Log) (d : Driver) (o : Known Tx) → slice_get ls k ≡ Some l → slice_get ds k ≡ Some d → slice_get os k ≡ Some o → AreAllPasses l (d.pass ∷ o ∷ column k rows)) → CanFinish ls ds os rows
+pub can_finish : (ls : List Log) (ds : List Driver) (os : List (Known Tx)) (rows : List (List (Known Tx))) → length ds ≡ length ls
+    → length os ≡ length ls → All (λ row. length row ≡ length ls) rows
+    → ((k : ℕ) (l : Log) (d : Driver) (o : Known Tx)
+    → slice_get ls k ≡ Some l → slice_get ds k ≡ Some d → slice_get os k ≡ Some o → AreAllPasses l (d.pass ∷ o ∷ column k rows))
+    → CanFinish ls ds os rows
 can_finish [] ds os rows n m all each = tt
 can_finish (l ∷ ls) [] os rows n m all each = absurd (omega (arith, n))
 can_finish (l ∷ ls) (d ∷ ds) [] rows n m all each = absurd (omega (arith, m))
@@ -48,13 +52,15 @@ can_finish (l ∷ ls) (d ∷ ds) (o ∷ os) rows n m all each = (
 )
 
 pub finished_at : (ds : List Driver) (os : List (Known Tx)) (rows : List (List (Known Tx))) (xs : List (List Tx)) → AreFinished ds os rows xs
-    → (k : ℕ) (d : Driver) (o : Known Tx) (x : List Tx) → slice_get ds k ≡ Some d → slice_get os k ≡ Some o → slice_get xs k ≡ Some x → IsListOf (d.pass ∷ o ∷ column k rows) x
+    → (k : ℕ) (d : Driver) (o : Known Tx) (x : List Tx) → slice_get ds k ≡ Some d → slice_get os k ≡ Some o → slice_get xs k ≡ Some x
+    → IsListOf (d.pass ∷ o ∷ column k rows) x
 finished_at ds os rows [] all k d o x id io ix = absurd (cc)
 finished_at [] os rows (y ∷ xs) all k d o x id io ix = absurd all
 finished_at (e ∷ ds) [] rows (y ∷ xs) all k d o x id io ix = absurd all
 finished_at (e ∷ ds) (p ∷ os) rows (y ∷ xs) all zero d o x id io ix =
     subst (λ (z : Driver). IsListOf (z.pass ∷ o ∷ column 0 rows) x) (same_Some e d id)
-    (subst (λ (z : Known Tx). IsListOf (e.pass ∷ z ∷ column 0 rows) x) (same_Some p o io) (subst (IsListOf (e.pass ∷ p ∷ column 0 rows)) (same_Some y x ix) all.0))
+    (subst (λ (z : Known Tx). IsListOf (e.pass ∷ z ∷ column 0 rows) x) (same_Some p o io)
+    (subst (IsListOf (e.pass ∷ p ∷ column 0 rows)) (same_Some y x ix) all.0))
 finished_at (e ∷ ds) (p ∷ os) rows (y ∷ xs) all (suc k) d o x id io ix =
     subst (λ (c : List (Known Tx)). IsListOf (d.pass ∷ o ∷ c) x) (next_column k rows) (finished_at ds os (later_columns rows) xs all.1 k d o x id io ix)
 
@@ -63,19 +69,22 @@ module _ (logs : List Log) (k : ℕ) (l : Log) (is : slice_get logs k ≡ Some l
   one_of : (qs : List (Known Tx)) → AllZip IsPassOf logs qs → (q : Known Tx) × (slice_get qs k ≡ Some q) × IsPassOf l q
   one_of qs z = by logs qs k is z
     where
-      by : (logs : List Log) (qs : List (Known Tx)) (k : ℕ) → slice_get logs k ≡ Some l → AllZip IsPassOf logs qs → (q : Known Tx) × (slice_get qs k ≡ Some q) × IsPassOf l q
+      by : (logs : List Log) (qs : List (Known Tx)) (k : ℕ) → slice_get logs k ≡ Some l → AllZip IsPassOf logs qs
+          → (q : Known Tx) × (slice_get qs k ≡ Some q) × IsPassOf l q
       by [] qs k found z = absurd (cc)
       by (x ∷ logs) [] k found z = absurd z
       by (x ∷ logs) (q ∷ qs) zero found z = (q, refl, subst (λ (o : Log). IsPassOf o q) (same_Some x l found) z.0)
       by (x ∷ logs) (q ∷ qs) (suc k) found z = by logs qs k found z.1
 
-  pub column_of : (cs : List ClientWorker) → All (OfClient logs) cs → All (IsPassOf l) (column k (rows_of cs)) × (sum_by (λ p. p.parts) (column k (rows_of cs)) ≡ length cs)
+  pub column_of : (cs : List ClientWorker) → All (OfClient logs) cs
+      → All (IsPassOf l) (column k (rows_of cs)) × (sum_by (λ p. p.parts) (column k (rows_of cs)) ≡ length cs)
   column_of [] all = (All-nil (IsPassOf l), refl)
   column_of (c ∷ cs) all =
       let of : OfClient logs c = All-head (OfClient logs) c cs all in
       let rest = column_of cs (All-tail (OfClient logs) c cs all) in
       let (q, found, own) = one_of c.passes.items of.passes in
-      let one : q.parts ≡ 1 = ap (λ (p : Known Tx). p.parts) (sym (get_or_from_slice_get c.passes.items k q q found)) ∙ of.parts k q (slice_get_within c.passes.items k q found) in
+      let one : q.parts ≡ 1 = ap (λ (p : Known Tx). p.parts) (sym (get_or_from_slice_get c.passes.items k q q found))
+      ∙ of.parts k q (slice_get_within c.passes.items k q found) in
       let column_is : column k (rows_of (c ∷ cs)) ≡ q ∷ column k (rows_of cs) = ap (λ (o : _). option_to_list o ++ column k (rows_of cs)) found in
       let sum = sum_by-cons (λ (p : Known Tx). p.parts) q (column k (rows_of cs)) in
       let all_parts = rest.1 in (

@@ -44,14 +44,16 @@ module _ (P : ℕ → Bool → Type 0) (n : ℕ) where
   }
 
 -- what holds of a worker in the first part and the first one of the second, where the workers are split in two
-pub split_both : {X : Type 0} (Q : X → X → Type 0) (all prefix back : List X) (low high : ℕ) (x y : X) → all ≡ prefix ++ back → length prefix ≡ high → low < high → high < length all
+pub split_both : {X : Type 0} (Q : X → X → Type 0) (all prefix back : List X) (low high : ℕ) (x y : X) → all ≡ prefix ++ back
+    → length prefix ≡ high → low < high → high < length all
     → Q (get_or prefix low x) (get_or back 0 y) → (d : X) → Q (get_or all low d) (get_or all high d)
 split_both {X = X} Q all prefix back low high x y is len lt within q d =
     let whole : length all ≡ length prefix + length back = ap length is ∙ length-append prefix back in
     let lf : low < length prefix = omega (arith, lt, len) in
     let lb : 0 < length back = omega (arith, whole, len, within) in
     let one : get_or prefix low x ≡ get_or all low d =
-    get_or_from_slice_get prefix low (get_or prefix low d) x (slice_get-get_or prefix low d lf) ∙ (sym (get_or_append_left prefix back d low lf) ∙ ap (λ (l : List X). get_or l low d) (sym is)) in
+    get_or_from_slice_get prefix low (get_or prefix low d) x (slice_get-get_or prefix low d lf)
+    ∙ (sym (get_or_append_left prefix back d low lf) ∙ ap (λ (l : List X). get_or l low d) (sym is)) in
     let at : length prefix + 0 ≡ high = omega (arith, len) in
     let other : get_or back 0 y ≡ get_or all high d =
     get_or_from_slice_get back 0 (get_or back 0 d) y (slice_get-get_or back 0 d lb)
@@ -59,16 +61,19 @@ split_both {X = X} Q all prefix back low high x y is len lt within q d =
     subst (λ (c : X). Q c (get_or all high d)) one (subst (λ (c : X). Q (get_or prefix low x) c) other q)
 
 -- what holds of all holds of one in the first part, and of the first one of the second
-pub of_prefix : {X : Type 0} (P : X → Type 0) (all prefix back : List X) (i : ℕ) (x : X) → all ≡ prefix ++ back → All P all → i < length prefix → P (get_or prefix i x)
+pub of_prefix : {X : Type 0} (P : X → Type 0) (all prefix back : List X) (i : ℕ) (x : X) → all ≡ prefix ++ back → All P all
+    → i < length prefix → P (get_or prefix i x)
 of_prefix {X = X} P all prefix back i x is a lt =
     let whole : length all ≡ length prefix + length back = ap length is ∙ length-append prefix back in
     let same : get_or all i x ≡ get_or prefix i x = ap (λ (l : List X). get_or l i x) is ∙ get_or_append_left prefix back x i lt in
     subst P same (a i x (omega (arith, whole, lt)))
 
-pub of_back : {X : Type 0} (P : X → Type 0) (all prefix back : List X) (high : ℕ) (x : X) → all ≡ prefix ++ back → All P all → length prefix ≡ high → high < length all → P (get_or back 0 x)
+pub of_back : {X : Type 0} (P : X → Type 0) (all prefix back : List X) (high : ℕ) (x : X) → all ≡ prefix ++ back → All P all
+    → length prefix ≡ high → high < length all → P (get_or back 0 x)
 of_back {X = X} P all prefix back high x is a len within =
     let at : high ≡ length prefix + 0 = omega (arith, len) in
-    let same : get_or all high x ≡ get_or back 0 x = ap (λ (l : List X). get_or l high x) is ∙ (ap (λ (k : ℕ). get_or (prefix ++ back) k x) at ∙ get_or-append-add prefix back 0 x) in
+    let same : get_or all high x ≡ get_or back 0 x =
+    ap (λ (l : List X). get_or l high x) is ∙ (ap (λ (k : ℕ). get_or (prefix ++ back) k x) at ∙ get_or-append-add prefix back 0 x) in
     subst P same (a high x within)
 
 -- what stands where it stood
@@ -77,13 +82,15 @@ same_set [] i d = refl
 same_set (x ∷ xs) zero d = refl
 same_set {X = X} (x ∷ xs) (suc i) d = ap (λ (l : List X). x ∷ l) (same_set xs i d)
 
-pub put_back : {X : Type 0} (all prefix back : List X) (low : ℕ) (x y p q : X) → all ≡ prefix ++ back → p ≡ get_or prefix low x → q ≡ get_or back 0 y → slice_set prefix low p ++ slice_set back 0 q ≡ all
+pub put_back : {X : Type 0} (all prefix back : List X) (low : ℕ) (x y p q : X) → all ≡ prefix ++ back → p ≡ get_or prefix low x
+    → q ≡ get_or back 0 y → slice_set prefix low p ++ slice_set back 0 q ≡ all
 put_back {X = X} all prefix back low x y p q is one other =
     ap (λ (v : X). slice_set prefix low v ++ slice_set back 0 q) one ∙ ap (λ (l : List X). l ++ slice_set back 0 q) (same_set prefix low x)
     ∙ ap (λ (v : X). prefix ++ slice_set back 0 v) other ∙ ap (λ (l : List X). prefix ++ l) (same_set back 0 y) ∙ sym is
 
 -- the answer for one and itself is that at its place
-pub with_itself : {S : Type 0} (workers : List (Working S)) (i k : ℕ) (x : Working S) (b : Bool) → i ≡ k → i < length workers → Answers b (get_or workers i x) (get_or workers i x) → AnswersAt workers i k b
+pub with_itself : {S : Type 0} (workers : List (Working S)) (i k : ℕ) (x : Working S) (b : Bool) → i ≡ k → i < length workers
+    → Answers b (get_or workers i x) (get_or workers i x) → AnswersAt workers i k b
 with_itself {S = S} workers i k x b same lt a d =
     let e : get_or workers i x ≡ get_or workers i d = get_or_from_slice_get workers i (get_or workers i d) x (slice_get-get_or workers i d lt) in
     subst (λ (j : ℕ). Answers b (get_or workers i d) (get_or workers j d)) same (subst (λ (c : Working S). Answers b c c) e a)
@@ -95,7 +102,8 @@ module _ {S : Type 0} (workers : List (Working S)) where
 
   of_both : (i k : ℕ) (b : Bool) (t s : Working S) → slice_get workers i ≡ Some t → slice_get workers k ≡ Some s → AnswersAt workers i k b → Answers b t s
   of_both i k b t s is it a =
-      subst (λ (x : Working S). Answers b x s) (get_or_from_slice_get workers i t t is) (subst (λ (x : Working S). Answers b (get_or workers i t) x) (get_or_from_slice_get workers k s t it) (a t))
+      subst (λ (x : Working S). Answers b x s) (get_or_from_slice_get workers i t t is)
+      (subst (λ (x : Working S). Answers b (get_or workers i t) x) (get_or_from_slice_get workers k s t it) (a t))
 
   -- one look says the same as another
   differ : (t s : Working S) → Compared true t.at t.take.taken s.sends → Compared false t.at t.take.taken s.sends → false ≡ true

@@ -37,7 +37,8 @@ tried_no list tx fault p t = record {
   full = λ is. (let (u, in_list, lacks) = t.full is in (u, holds_longer u list (tx ∷ []) in_list, lacks));
 }
 
-pub tried_no_more : (list : List Tx) (tx : Tx) (fault : Option SubmitFault) (p : Known Tx) → is_some fault ≡ true → HasTried list fault p → HasTried (list ++ tx ∷ []) fault p
+pub tried_no_more : (list : List Tx) (tx : Tx) (fault : Option SubmitFault) (p : Known Tx) → is_some fault ≡ true → HasTried list fault p
+    → HasTried (list ++ tx ∷ []) fault p
 tried_no_more list tx None p is t = absurd (cc (is))
 tried_no_more list tx (Some fault) p is t = tried_no list tx fault p t
 
@@ -45,14 +46,16 @@ pub was_none : (fault : Option SubmitFault) → is_some fault ≡ false → faul
 was_none None is = refl
 was_none (Some fault) is = absurd (cc (is))
 
-pub tried_ok : (list : List Tx) (tx : Tx) (placed : Placed) (p q : Known Tx) → HasTried list None p → HasSubmitted p tx (Ok placed) q → HasTried (list ++ tx ∷ []) None q
+pub tried_ok : (list : List Tx) (tx : Tx) (placed : Placed) (p q : Known Tx) → HasTried list None p → HasSubmitted p tx (Ok placed) q
+    → HasTried (list ++ tx ∷ []) None q
 tried_ok list tx placed p q t h = record {
   stand = stands_after p q tx (Ok placed) list h t.stand;
   held = λ is. held_after p q tx placed list h (t.held refl);
   full = λ is. absurd (cc (is));
 }
 
-pub tried_err : (list : List Tx) (tx : Tx) (fault : SubmitFault) (p q : Known Tx) → HasTried list None p → HasSubmitted p tx (Err fault) q → HasTried (list ++ tx ∷ []) (Some fault) q
+pub tried_err : (list : List Tx) (tx : Tx) (fault : SubmitFault) (p q : Known Tx) → HasTried list None p → HasSubmitted p tx (Err fault) q
+    → HasTried (list ++ tx ∷ []) (Some fault) q
 tried_err list tx fault p q t h = record {
   stand = stands_after p q tx (Err fault) list h t.stand;
   held = λ is. absurd (cc (is));
@@ -84,7 +87,8 @@ tries_more xs tx a b c x y list t = subst (λ (l : List Tx). HasTried l c.fault 
 
 -- ---- what arrived by a count of turns
 
-pub given_more : (all : List TimedTx) (turns : ℕ) (old new : Driver) → Tries (arrived turns old.feed) old new → new.feed ≡ after_giving turns old.feed → HasGiven all old → HasGiven all new
+pub given_more : (all : List TimedTx) (turns : ℕ) (old new : Driver) → Tries (arrived turns old.feed) old new
+    → new.feed ≡ after_giving turns old.feed → HasGiven all old → HasGiven all new
 given_more all turns old new tries feed g =
     let n : ℕ = count_by_now turns old.feed.left in
     let now : List TimedTx = take n old.feed.left in
@@ -102,7 +106,8 @@ tried_looked list fault p q h t =
       stand = subst (λ (o : List ℕ). Stands q.seen (record { own = o; list = list })) (sym own)
           (subst (λ (l : List Tx). Stands l (record { own = p.own; list = list })) h.later.1 (stands_within p.seen h.later.0 p.own list t.stand));
       held = λ none. subst (λ (l : List Tx). HoldsEach l list) h.later.1 (held_grow p.seen h.later.0 list (t.held none));
-      full = λ is. (let (u, in_list, lack) = t.full is in (let (prefix, begins, len, lacks) = lack in (u, in_list, (prefix, prefix_trans prefix p.seen q.seen begins h.later, len, lacks))));
+      full = λ is. (let (u, in_list, lack) = t.full is in
+          (let (prefix, begins, len, lacks) = lack in (u, in_list, (prefix, prefix_trans prefix p.seen q.seen begins h.later, len, lacks))));
     }
 
 pub own_heard : (log : Log) (a b : Driver) → DriverHears a b → IsDriverOf log a → IsDriverOf log b
@@ -115,5 +120,6 @@ pub given_looked : (all : List TimedTx) (a b : Driver) → DriverHears a b → H
 given_looked all a b h g = record {
   given = g.given;
   all_is = g.all_is ∙ ap (λ (f : Fed). g.given ++ f.left) (sym h.feed);
-  tried = subst (λ (f : Option SubmitFault). HasTried (txs_of g.given) f b.pass) (sym h.fault) (tried_looked (txs_of g.given) a.fault a.pass b.pass h.looked g.tried);
+  tried = subst (λ (f : Option SubmitFault). HasTried (txs_of g.given) f b.pass) (sym h.fault)
+      (tried_looked (txs_of g.given) a.fault a.pass b.pass h.looked g.tried);
 }

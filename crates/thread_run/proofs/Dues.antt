@@ -63,7 +63,8 @@ module _ {X : Type 0} where
   any_same : (p q : X → Bool) (xs : List X) → All (λ x. p x ≡ q x) xs → list_any p xs ≡ list_any q xs
   any_same p q [] all = refl
   any_same p q (x ∷ xs) all =
-      ap (λ (b : Bool). b || list_any p xs) (All-head (λ x. p x ≡ q x) x xs all) ∙ ap (λ (b : Bool). q x || b) (any_same p q xs (All-tail (λ x. p x ≡ q x) x xs all))
+      ap (λ (b : Bool). b || list_any p xs) (All-head (λ x. p x ≡ q x) x xs all)
+      ∙ ap (λ (b : Bool). q x || b) (any_same p q xs (All-tail (λ x. p x ≡ q x) x xs all))
 
   any_equal : (p q : X → Bool) → ((x : X) → p x ≡ q x) → (xs : List X) → list_any p xs ≡ list_any q xs
   any_equal p q same xs = any_same p q xs (λ k d lt. same _)
@@ -160,7 +161,8 @@ clients_same p clients r =
     ∙ any_filter (λ (c : Client). p (numbered_tx c.id n)) (λ c. nat_le n c.count) (around r clients)
     ∙ any_around (q n) r clients)) rounds
     ∙ any_swap q rounds clients
-    ∙ any_same (λ c. list_any (λ n. q n c) rounds) (λ c. list_any p (client_list c)) clients (λ k d lt. asked_all p _ (rounds_of clients) (most_each 0 clients k d lt))
+    ∙ any_same (λ c. list_any (λ n. q n c) rounds) (λ c. list_any p (client_list c)) clients
+    (λ k d lt. asked_all p _ (rounds_of clients) (most_each 0 clients k d lt))
     ∙ sym (any_flat p client_list clients)
 
 pub flat_lists : (clients : List Client) → flat_map (λ l. l) (map client_list clients) ≡ flat_map client_list clients
@@ -177,7 +179,8 @@ feed_same plan at t =
     let p : Tx → Bool = λ x. tx_eq x t in
     let clients : List Tx = clients_for plan.clients at in
     let arrivals : List Tx = txs_of (arrivals_for plan.arrivals at) in
-    ap (holds t) (map-append (λ (x : TimedTx). x.tx) (at_turn 0 clients) (arrivals_for plan.arrivals at) ∙ ap (λ (l : List Tx). l ++ arrivals) (at_turns 0 clients))
+    ap (holds t) (map-append (λ (x : TimedTx). x.tx) (at_turn 0 clients) (arrivals_for plan.arrivals at)
+    ∙ ap (λ (l : List Tx). l ++ arrivals) (at_turns 0 clients))
     ∙ list_any-append p clients arrivals
     ∙ or_swap (list_any p clients) (list_any p arrivals)
     ∙ ap (λ (b : Bool). list_any p arrivals || b) (clients_same p plan.clients at ∙ ap (list_any p) (sym (flat_lists plan.clients)))
@@ -199,7 +202,8 @@ test_same t x p = elim (cases_Bool (tx_eq x t)) [
 test_all : (t : Tx) (p : Tx → Bool) (xs : List Tx) → list_any (λ y. p y && tx_eq y t) xs ≡ (holds t xs && p t)
 test_all t p [] = refl
 test_all t p (x ∷ xs) =
-    ap (λ (b : Bool). b || list_any (λ y. p y && tx_eq y t) xs) (test_same t x p) ∙ ap (λ (b : Bool). (tx_eq x t && p t) || b) (test_all t p xs) ∙ and_or (tx_eq x t) (holds t xs) (p t)
+    ap (λ (b : Bool). b || list_any (λ y. p y && tx_eq y t) xs) (test_same t x p)
+    ∙ ap (λ (b : Bool). (tx_eq x t && p t) || b) (test_all t p xs) ∙ and_or (tx_eq x t) (holds t xs) (p t)
 
 holds_filter : (t : Tx) (p : Tx → Bool) (xs : List Tx) → holds t (filter p xs) ≡ (holds t xs && p t)
 holds_filter t p xs = any_filter (λ y. tx_eq y t) p xs ∙ test_all t p xs
@@ -213,7 +217,8 @@ all_held P (x ∷ xs) all t is = elim (cases_Bool (tx_eq x t)) [
 
 pub merge_same : (lists : List (List Tx)) (list : List Tx) → IsMerge lists list → SameTxs (flat_map (λ l. l) lists) list
 merge_same lists list m t =
-    any_flat (λ x. tx_eq x t) (λ l. l) lists ∙ bool_same (list_any (holds t) lists) (holds t list) (inside lists m.each) (all_held (λ x. list_any (holds x) lists ≡ true) list m.rest t)
+    any_flat (λ x. tx_eq x t) (λ l. l) lists
+    ∙ bool_same (list_any (holds t) lists) (holds t list) (inside lists m.each) (all_held (λ x. list_any (holds x) lists ≡ true) list m.rest t)
   where
     inside : (ls : List (List Tx)) → All (λ l. filter (λ tx. holds tx l) list ≡ l) ls → list_any (holds t) ls ≡ true → holds t list ≡ true
     inside [] all is = absurd (false≢true is)
@@ -226,7 +231,8 @@ merge_same lists list m t =
 
 -- ---- what is due
 
-items_same : (honest : ℕ → Bool) (k : ℕ) (xs ys : List (List Tx)) → AllZip SameTxs xs ys → AllZip SameTxs (map (λ item. item.1) (honest_items honest k xs)) (map (λ item. item.1) (honest_items honest k ys))
+items_same : (honest : ℕ → Bool) (k : ℕ) (xs ys : List (List Tx)) → AllZip SameTxs xs ys
+    → AllZip SameTxs (map (λ item. item.1) (honest_items honest k xs)) (map (λ item. item.1) (honest_items honest k ys))
 items_same honest k [] [] z = tt
 items_same honest k [] (y ∷ ys) z = absurd z
 items_same honest k (x ∷ xs) [] z = absurd z
@@ -252,7 +258,8 @@ in_all_same (x ∷ xs) (y ∷ ys) z t =
 
 pub due_same : (n : ℕ) (faulty : List ℕ) (xs ys : List (List Tx)) → AllZip SameTxs xs ys → SameTxs (due_of n faulty xs) (due_of n faulty ys)
 due_same n faulty xs ys z =
-    in_all_same (map (λ item. item.1) (honest_items (is_honest n faulty) 0 xs)) (map (λ item. item.1) (honest_items (is_honest n faulty) 0 ys)) (items_same (is_honest n faulty) 0 xs ys z)
+    in_all_same (map (λ item. item.1) (honest_items (is_honest n faulty) 0 xs))
+    (map (λ item. item.1) (honest_items (is_honest n faulty) 0 ys)) (items_same (is_honest n faulty) 0 xs ys z)
 
 -- a test that all of a list pass all of a list pass that holds the same
 pub all_pass_same : (p : Tx → Bool) (xs ys : List Tx) → SameTxs xs ys → list_all p xs ≡ true → list_all p ys ≡ true
@@ -268,4 +275,5 @@ all_pass_same p xs ys same all = each ys (λ t is. passes xs all t (same t ∙ i
     each : (ys : List Tx) → ((t : Tx) → holds t ys ≡ true → p t ≡ true) → list_all p ys ≡ true
     each [] inside = refl
     each (y ∷ ys) inside =
-        and_from (p y) (list_all p ys) (inside y (or_left (tx_eq y y) (holds y ys) ((tx_eq_decides y y).1 refl))) (each ys (λ t is. inside t (or_right (tx_eq y t) (holds t ys) is)))
+        and_from (p y) (list_all p ys) (inside y (or_left (tx_eq y y) (holds y ys) ((tx_eq_decides y y).1 refl)))
+        (each ys (λ t is. inside t (or_right (tx_eq y t) (holds t ys) is)))

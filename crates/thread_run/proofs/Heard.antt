@@ -52,7 +52,8 @@ module _ {S : Type 0} where
 
   -- ---- workers
 
-  pub taken_heard : (plan : Plan) (turns : ℕ) (old new : Run S) → HasHeard plan turns old new → AllTaken new.drivers.items new.clients.items → AllTaken old.drivers.items old.clients.items
+  pub taken_heard : (plan : Plan) (turns : ℕ) (old new : Run S) → HasHeard plan turns old new → AllTaken new.drivers.items new.clients.items
+      → AllTaken old.drivers.items old.clients.items
   taken_heard plan turns old new h t = record {
     drivers_took = λ at a is.
         let (b, there, sub) = zip_there (Submits turns) old.drivers.items h.between at a h.submitted is in
@@ -64,21 +65,25 @@ module _ {S : Type 0} where
   }
 
   module _ (fits : Check) (plan : Plan) (m : Meaning S) (gives : ℕ → Gives) (capacity : ℕ) where
-    pub stands_heard : (logs : List Log) (boxes : List Box) (vs ws : List (Working S)) → All (Ready logs boxes) vs → AllZip ReportedWorker vs ws → AllStand fits plan m gives capacity vs → AllStand fits plan m gives capacity ws
+    pub stands_heard : (logs : List Log) (boxes : List Box) (vs ws : List (Working S)) → All (Ready logs boxes) vs
+        → AllZip ReportedWorker vs ws → AllStand fits plan m gives capacity vs → AllStand fits plan m gives capacity ws
     stands_heard logs boxes vs ws ready z stand at lt =
         let (v, is, s) = stand at lt in
         let (w, here, reported) = zip_there ReportedWorker vs ws at v z is in
         let own : Ready logs boxes v = all_at (Ready logs boxes) vs at v ready is in
         (w, here, hears_stands fits plan m gives capacity at v w own.0.known reported s)
 
-    pub timely_heard : (rounds ticks turns : ℕ) (old new : Run S) → turns ≤ old.turns → IsGoing fits plan m gives capacity rounds ticks old → HasHeard plan turns old new → IsTimely plan ticks old.turns (journals_at old.workers.items) new.drivers.items
+    pub timely_heard : (rounds ticks turns : ℕ) (old new : Run S) → turns ≤ old.turns → IsGoing fits plan m gives capacity rounds ticks old
+        → HasHeard plan turns old new → IsTimely plan ticks old.turns (journals_at old.workers.items) new.drivers.items
     timely_heard rounds ticks turns old new le g h = record {
       ticked = g.timely.ticked;
-      early = early_after plan ticks old.turns (journals_at old.workers.items) old.workers.items old.drivers.items new.drivers.items (known_within fits plan m gives capacity old.workers.items g.stand) h.after g.timely;
+      early = early_after plan ticks old.turns (journals_at old.workers.items) old.workers.items old.drivers.items new.drivers.items
+          (known_within fits plan m gives capacity old.workers.items g.stand) h.after g.timely;
       given = given_heard plan turns old.turns old new le h g.timely.given;
     }
 
-    pub going_heard : (rounds ticks turns : ℕ) (old new : Run S) → turns ≤ old.turns → IsGoing fits plan m gives capacity rounds ticks old → HasHeard plan turns old new → IsGoing fits plan m gives capacity rounds ticks new
+    pub going_heard : (rounds ticks turns : ℕ) (old new : Run S) → turns ≤ old.turns → IsGoing fits plan m gives capacity rounds ticks old
+        → HasHeard plan turns old new → IsGoing fits plan m gives capacity rounds ticks new
     going_heard rounds ticks turns old new le g h =
         let journals = journals_heard old.workers.items new.workers.items h.workers in
         let same : new.turns ≡ old.turns = ap (λ (r : Run S). r.turns) h.same in record {
@@ -99,7 +104,8 @@ module _ {S : Type 0} where
 abbrev KnownBy : ℕ → List Tx → TimedTx → Type 0
 KnownBy turns seen t = nat_le t.turn turns ≡ true → holds t.tx seen ≡ true
 
-all_known : (turns : ℕ) (seen : List Tx) (given left : List TimedTx) → HoldsEach seen (txs_of given) → AllByRecursion (IsLate turns) left → AllByRecursion (KnownBy turns seen) (given ++ left)
+all_known : (turns : ℕ) (seen : List Tx) (given left : List TimedTx) → HoldsEach seen (txs_of given) → AllByRecursion (IsLate turns) left
+    → AllByRecursion (KnownBy turns seen) (given ++ left)
 all_known turns seen [] [] held late = tt
 all_known turns seen [] (t ∷ left) held late = (λ so. absurd (let no = late.0 in cc (so, no)), all_known turns seen [] left held late.1)
 all_known turns seen (t ∷ given) left held late =
@@ -118,16 +124,20 @@ all_hold seen [] h = tt
 all_hold seen (t ∷ txs) h = (let both = and_parts (holds t seen) (list_all (λ x. holds x seen) txs) h in (both.0, all_hold seen txs both.1))
 
 module _ {S : Type 0} (fits : Check) (plan : Plan) (m : Meaning S) (gives : ℕ → Gives) (capacity rounds ticks turns : ℕ) (old new : Run S)
-    (le : turns ≤ old.turns) (g : IsGoing fits plan m gives capacity rounds ticks old) (h : HasHeard plan turns old new) (taken : AllTaken new.drivers.items new.clients.items) where
-  client_known : (seen : List Tx) → ((i : ℕ) (c : ClientWorker) → slice_get new.clients.items i ≡ Some c → HoldsOf seen c) → (k : ℕ) (p : Sender) → slice_get plan.clients k ≡ Some p
+    (le : turns ≤ old.turns) (g : IsGoing fits plan m gives capacity rounds ticks old) (h : HasHeard plan turns old new)
+    (taken : AllTaken new.drivers.items new.clients.items) where
+  client_known : (seen : List Tx) → ((i : ℕ) (c : ClientWorker) → slice_get new.clients.items i ≡ Some c → HoldsOf seen c)
+      → (k : ℕ) (p : Sender) → slice_get plan.clients k ≡ Some p
       → All (λ t. holds t seen ≡ true) (take (64 * rounds) (client_list p))
   client_known seen held k p is =
       let (c, found, of) = zip_there IsClientOf plan.clients new.clients.items k p h.manned.clients is in
       let none = taken.clients_took k c found in
       let next = (going_heard fits plan m gives capacity rounds ticks turns old new le g h).next k c found none in
       let first : numbered c.id c.next ≡ take (64 * rounds) (client_list p) =
-      ap (λ (i : ℕ). numbered i c.next) of.0 ∙ ap (numbered p.id) (next ∙ ap (λ (n : ℕ). min n (64 * rounds)) of.1) ∙ sym (numbered_first (numbered_tx p.id) 1 (64 * rounds) p.count) in
-      All-from_recursion (λ t. holds t seen ≡ true) (take (64 * rounds) (client_list p)) (all_hold seen (take (64 * rounds) (client_list p)) (subst (HoldsEach seen) first (held k c found none)))
+      ap (λ (i : ℕ). numbered i c.next) of.0 ∙ ap (numbered p.id) (next ∙ ap (λ (n : ℕ). min n (64 * rounds)) of.1)
+      ∙ sym (numbered_first (numbered_tx p.id) 1 (64 * rounds) p.count) in
+      All-from_recursion (λ t. holds t seen ≡ true) (take (64 * rounds) (client_list p))
+      (all_hold seen (take (64 * rounds) (client_list p)) (subst (HoldsEach seen) first (held k c found none)))
 
   -- before a round each replica's worker has seen what arrives by the turns, and what the clients have submitted
   pub holds_heard : (at : ℕ) → at < plan.setting.n → Holds plan at turns (64 * rounds) (seen_at new.workers.items at)
@@ -147,7 +157,8 @@ module _ {S : Type 0} (fits : Check) (plan : Plan) (m : Meaning S) (gives : ℕ 
       let given = h.given at b b_is in
       let before = g.manned.given at a a_is in
       let left : b.feed.left ≡ drop (count_by_now turns a.feed.left) a.feed.left = ap (λ (f : Fed). f.left) sub.1 in
-      let late : AllByRecursion (IsLate turns) b.feed.left = subst (AllByRecursion (IsLate turns)) (sym left) (later_left turns plan.arrivals at before.given a.feed.left before.all_is) in
+      let late : AllByRecursion (IsLate turns) b.feed.left =
+      subst (AllByRecursion (IsLate turns)) (sym left) (later_left turns plan.arrivals at before.given a.feed.left before.all_is) in
       let held = held_longer b.pass.seen w.log.seen (txs_of given.given) reported.0 (given.tried.held none) in
       subst (Holds plan at turns (64 * rounds)) (sym (seen_is workers at w is)) (record {
         arrivals = All-from_recursion (KnownBy turns w.log.seen) (arrivals_for plan.arrivals at)

@@ -27,7 +27,8 @@ module _ {A B : Type 0} (R : A → B → Type 0) where
   zip_snoc (a ∷ xs) [] x y z r = absurd z
   zip_snoc (a ∷ xs) (b ∷ ys) x y z r = (z.0, zip_snoc xs ys x y z.1 r)
 
-  pub zip_more : (xs : List A) (ys : List B) (k : ℕ) (d : A) (y : B) → k < length xs → AllZip R (take k xs) ys → R (get_or xs k d) y → AllZip R (take (k + 1) xs) (ys ++ y ∷ [])
+  pub zip_more : (xs : List A) (ys : List B) (k : ℕ) (d : A) (y : B) → k < length xs → AllZip R (take k xs) ys → R (get_or xs k d) y
+      → AllZip R (take (k + 1) xs) (ys ++ y ∷ [])
   zip_more xs ys k d y lt z r = subst (λ (l : List A). AllZip R l (ys ++ y ∷ [])) (sym (take_more xs k d lt)) (zip_snoc (take k xs) ys (get_or xs k d) y z r)
 
 -- one element more
@@ -37,7 +38,8 @@ all_snoc P xs more x is all p = subst (All P) (sym is) (All-append P xs (x ∷ [
 pub count_snoc : {X : Type 0} (xs more : List X) (x : X) (n : ℕ) → more ≡ xs ++ x ∷ [] → length xs ≡ n → length more ≡ n + 1
 count_snoc xs more x n is len = (let both = length-append xs (x ∷ []) in let all = ap length is in omega (arith, both, all, len))
 
-pub map_snoc : {X Y : Type 0} (f : X → Y) (xs more : List X) (x : X) (ys more' : List Y) (y : Y) → more ≡ xs ++ x ∷ [] → more' ≡ ys ++ y ∷ [] → ys ≡ map f xs → y ≡ f x → more' ≡ map f more
+pub map_snoc : {X Y : Type 0} (f : X → Y) (xs more : List X) (x : X) (ys more' : List Y) (y : Y) → more ≡ xs ++ x ∷ []
+    → more' ≡ ys ++ y ∷ [] → ys ≡ map f xs → y ≡ f x → more' ≡ map f more
 map_snoc f xs more x ys more' y is it are one =
     it ∙ ap (λ (l : List _). l ++ y ∷ []) are ∙ ap (λ (z : _). map f xs ++ z ∷ []) one ∙ sym (map-append f xs (x ∷ [])) ∙ ap (map f) (sym is)
 
@@ -75,7 +77,8 @@ given_fresh a [] = All-nil IsFresh
 given_fresh a (l ∷ logs) = All-cons IsFresh (given (pass_with a l)) (map given (map (pass_with a) logs)) (refl, refl) (given_fresh a logs)
 
 -- the pass whose turn it is has two parts still
-module _ (logs : List Log) (now first : List (Known Tx)) (k : ℕ) (log : Log) (p : Known Tx) (rest : now ≡ changed giving k first) (is : p ≡ get_or now k p) where
+module _ (logs : List Log) (now first : List (Known Tx)) (k : ℕ) (log : Log) (p : Known Tx) (rest : now ≡ changed giving k first)
+    (is : p ≡ get_or now k p) where
   pub main_now : p ≡ get_or first k p
   main_now = is ∙ ap (λ (l : List (Known Tx)). get_or l k p) rest ∙ changed_at giving k first p
 
@@ -84,9 +87,11 @@ module _ (logs : List Log) (now first : List (Known Tx)) (k : ℕ) (log : Log) (
 
   pub mains_more : (q : Known Tx) → q ≡ giving p → k < length first → slice_set now k q ≡ changed giving (k + 1) first
   mains_more q gave lt =
-      ap (slice_set now k) (gave ∙ ap giving main_now) ∙ ap (λ (l : List (Known Tx)). slice_set l k (giving (get_or first k p))) rest ∙ changed_more giving k first p lt
+      ap (slice_set now k) (gave ∙ ap giving main_now) ∙ ap (λ (l : List (Known Tx)). slice_set l k (giving (get_or first k p))) rest
+      ∙ changed_more giving k first p lt
 
-  pub passes_more : (ps : List (Known Tx)) (one : Known Tx) → one ≡ given p → k < length first → ps ≡ map given (take k first) → ps ++ one ∷ [] ≡ map given (take (k + 1) first)
+  pub passes_more : (ps : List (Known Tx)) (one : Known Tx) → one ≡ given p → k < length first → ps ≡ map given (take k first)
+      → ps ++ one ∷ [] ≡ map given (take (k + 1) first)
   passes_more ps one gave lt are =
       ap (λ (l : List (Known Tx)). l ++ one ∷ []) are
       ∙ ap (λ (q : Known Tx). map given (take k first) ++ q ∷ []) (gave ∙ ap given main_now)
@@ -106,12 +111,14 @@ module _ {X : Type 0} where
   rows_in_set (w ∷ vs) zero v = refl
   rows_in_set (w ∷ vs) (suc k) v = ap (λ (l : List (List X)). w.items ∷ l) (rows_in_set vs k v)
 
-  module _ (now first : List (Vec X)) (k : ℕ) (v : Vec X) (rest : rows_in now ≡ changed (λ row. remove row 0) k (rows_in first)) (is : v ≡ get_or now k v) (lt : k < length first) where
+  module _ (now first : List (Vec X)) (k : ℕ) (v : Vec X) (rest : rows_in now ≡ changed (λ row. remove row 0) k (rows_in first))
+      (is : v ≡ get_or now k v) (lt : k < length first) where
     in_rows : k < length (rows_in first)
     in_rows = (let len = length-map first (λ (w : Vec X). w.items) in omega (arith, len, lt))
 
     pub row_in_now : v.items ≡ get_or (rows_in first) k v.items
-    row_in_now = ap (λ (w : Vec X). w.items) is ∙ row_in_at now k v ∙ ap (λ (rows : List (List X)). get_or rows k v.items) rest ∙ changed_at (λ row. remove row 0) k (rows_in first) v.items
+    row_in_now = ap (λ (w : Vec X). w.items) is ∙ row_in_at now k v ∙ ap (λ (rows : List (List X)). get_or rows k v.items) rest
+        ∙ changed_at (λ row. remove row 0) k (rows_in first) v.items
 
     pub some_in_now : All (λ row. 0 < length row) (rows_in first) → 0 < length v.items
     some_in_now all = subst (λ (row : List X). 0 < length row) (sym row_in_now) (all k v.items in_rows)
@@ -123,7 +130,8 @@ module _ {X : Type 0} where
         ∙ ap (λ (rows : List (List X)). slice_set rows k (remove (get_or (rows_in first) k v.items) 0)) rest
         ∙ changed_more (λ row. remove row 0) k (rows_in first) v.items in_rows
 
-    pub firsts_more : (xs : List X) (x : X) → x ≡ get_or v.items 0 x → 0 < length v.items → xs ≡ column 0 (take k (rows_in first)) → xs ++ x ∷ [] ≡ column 0 (take (k + 1) (rows_in first))
+    pub firsts_more : (xs : List X) (x : X) → x ≡ get_or v.items 0 x → 0 < length v.items → xs ≡ column 0 (take k (rows_in first))
+        → xs ++ x ∷ [] ≡ column 0 (take (k + 1) (rows_in first))
     firsts_more xs x at some are =
         let one : slice_get v.items 0 ≡ Some x = slice_get-get_or v.items 0 x some ∙ ap Some (sym at) in
         ap (λ (l : List X). l ++ x ∷ []) are
@@ -152,23 +160,27 @@ module _ {X : Type 0} where
   pub column_dropped : (k : ℕ) (rows : List (List X)) → column 0 (map (drop k) rows) ≡ column k rows
   column_dropped k [] = refl
   column_dropped k (row ∷ rows) =
-      ap (λ (o : Option X). option_to_list o ++ column 0 (map (drop k) rows)) (drop_get k row) ∙ ap (λ (l : List X). option_to_list (slice_get row k) ++ l) (column_dropped k rows)
+      ap (λ (o : Option X). option_to_list o ++ column 0 (map (drop k) rows)) (drop_get k row)
+      ∙ ap (λ (l : List X). option_to_list (slice_get row k) ++ l) (column_dropped k rows)
 
   pub later_dropped : (k : ℕ) (rows : List (List X)) → later_columns (map (drop k) rows) ≡ map (drop (k + 1)) rows
   later_dropped k [] = refl
-  later_dropped k (row ∷ rows) = ap (λ (l : List X). l ∷ later_columns (map (drop k) rows)) (drop_next k row) ∙ ap (λ (l : List (List X)). drop (k + 1) row ∷ l) (later_dropped k rows)
+  later_dropped k (row ∷ rows) = ap (λ (l : List X). l ∷ later_columns (map (drop k) rows)) (drop_next k row)
+      ∙ ap (λ (l : List (List X)). drop (k + 1) row ∷ l) (later_dropped k rows)
 
   pub some_dropped : (n k : ℕ) (rows : List (List X)) → k < n → All (λ row. length row ≡ n) rows → All (λ row. 0 < length row) (map (drop k) rows)
   some_dropped n k [] lt all = All-nil (λ (row : List X). 0 < length row)
   some_dropped n k (row ∷ rows) lt all =
-      All-cons (λ (r : List X). 0 < length r) (drop k row) (map (drop k) rows) (drop_some n k row (All-head (λ r. length r ≡ n) row rows all) lt) (some_dropped n k rows lt (All-tail (λ r. length r ≡ n) row rows all))
+      All-cons (λ (r : List X). 0 < length r) (drop k row) (map (drop k) rows) (drop_some n k row (All-head (λ r. length r ≡ n) row rows all) lt)
+      (some_dropped n k rows lt (All-tail (λ r. length r ≡ n) row rows all))
 
   pub none_dropped : (rows : List (List X)) → rows ≡ map (drop 0) rows
   none_dropped [] = refl
   none_dropped (row ∷ rows) = ap (λ (l : List (List X)). row ∷ l) (none_dropped rows)
 
   -- one row more
-  pub sends_more : (sends : List (Vec X)) (one : Vec X) (k : ℕ) (rows now : List (List X)) → now ≡ map (drop k) rows → one.items ≡ column 0 now → rows_in sends ≡ map (λ k. column k rows) (range_with_len 0 k)
+  pub sends_more : (sends : List (Vec X)) (one : Vec X) (k : ℕ) (rows now : List (List X)) → now ≡ map (drop k) rows
+      → one.items ≡ column 0 now → rows_in sends ≡ map (λ k. column k rows) (range_with_len 0 k)
       → rows_in (sends ++ one ∷ []) ≡ map (λ k. column k rows) (range_with_len 0 (k + 1))
   sends_more sends one k rows now is first are =
       let here : one.items ≡ column k rows = first ∙ ap (column 0) is ∙ column_dropped k rows in
@@ -180,12 +192,14 @@ module _ {X : Type 0} where
       ∙ ap (map (λ k. column k rows)) (sym (range_two 0 k 1))
 
 -- one more mailbox, with its passes
-pub dealt_more : (n : ℕ) (boxes boxes' : List Box) (vs vs' : List (Vec SendPass)) (b : Box) (v : Vec SendPass) → boxes' ≡ boxes ++ b ∷ [] → vs' ≡ vs ++ v ∷ [] → AllZip (IsDealt n) boxes (rows_in vs)
+pub dealt_more : (n : ℕ) (boxes boxes' : List Box) (vs vs' : List (Vec SendPass)) (b : Box) (v : Vec SendPass) → boxes' ≡ boxes ++ b ∷ []
+    → vs' ≡ vs ++ v ∷ [] → AllZip (IsDealt n) boxes (rows_in vs)
     → length v.items ≡ n → ((i : ℕ) → i < n → slice_get v.items i ≡ Some (sender_in b.name i)) → AllZip (IsDealt n) boxes' (rows_in vs')
 dealt_more n boxes boxes' vs vs' b v more some z count each =
     let rows : rows_in vs' ≡ rows_in vs ++ v.items ∷ [] = ap rows_in some ∙ map-append (λ (w : Vec SendPass). w.items) vs (v ∷ []) in
     subst (λ (l : List (List SendPass)). AllZip (IsDealt n) boxes' l) (sym rows)
-    (subst (λ (l : List Box). AllZip (IsDealt n) l (rows_in vs ++ v.items ∷ [])) (sym more) (zip_snoc (IsDealt n) boxes (rows_in vs) b v.items z (record { count = count; each = each })))
+    (subst (λ (l : List Box). AllZip (IsDealt n) l (rows_in vs ++ v.items ∷ [])) (sym more)
+    (zip_snoc (IsDealt n) boxes (rows_in vs) b v.items z (record { count = count; each = each })))
 
 -- the rows of all mailboxes have the same length
 pub rows_even : (n : ℕ) (boxes : List Box) (rows : List (List SendPass)) → AllZip (IsDealt n) boxes rows → All (λ row. length row ≡ n) rows

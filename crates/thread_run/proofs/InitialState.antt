@@ -38,14 +38,17 @@ use Rattle.thread_run.proofs.InitialLists.{column_at, drivers_of_logs, fresh_at,
 use Rattle.thread_run.proofs.Zips.{all_places, zip_back, zip_map}
 
 -- a seat for each replica
-pub seats_count : {S A : Type 0} (plan : Plan) (m : Meaning S) (shape : A → Signer) (sealers : List A) (seats : List (Seated S)) → map (λ s. (shape s).replica) sealers ≡ everyone plan
+pub seats_count : {S A : Type 0} (plan : Plan) (m : Meaning S) (shape : A → Signer) (sealers : List A) (seats : List (Seated S))
+    → map (λ s. (shape s).replica) sealers ≡ everyone plan
     → map (replica_of m) seats ≡ map (λ s. fresh_replica plan (shape s)) sealers → length seats ≡ plan.setting.n
 seats_count plan m shape sealers seats places are =
-    sym (length-map seats (replica_of m)) ∙ ap length are ∙ length-map sealers (λ s. fresh_replica plan (shape s)) ∙ sym (length-map sealers (λ s. (shape s).replica)) ∙ ap length places ∙ length-range_with_len 0 plan.setting.n
+    sym (length-map seats (replica_of m)) ∙ ap length are ∙ length-map sealers (λ s. fresh_replica plan (shape s))
+    ∙ sym (length-map sealers (λ s. (shape s).replica)) ∙ ap length places ∙ length-range_with_len 0 plan.setting.n
 
 -- ---- the whole
 
-module _ {S A : Type 0} (plan : Plan) (run : Run S) (m : Meaning S) (shape : A → Signer) (sealers : List A) (seats : List (Seated S)) (takes : List Receiver) (rows : List (List SendPass))
+module _ {S A : Type 0} (plan : Plan) (run : Run S) (m : Meaning S) (shape : A → Signer) (sealers : List A) (seats : List (Seated S))
+    (takes : List Receiver) (rows : List (List SendPass))
     (some : 0 < plan.setting.n)
     (places : map (λ s. (shape s).replica) sealers ≡ everyone plan)
     (seats_are : map (replica_of m) seats ≡ map (λ s. fresh_replica plan (shape s)) sealers)
@@ -57,7 +60,8 @@ module _ {S A : Type 0} (plan : Plan) (run : Run S) (m : Meaning S) (shape : A �
     (dealt : AllZip (IsDealt plan.setting.n) run.world.boxes.items rows)
     (clients : AllZip (IsNewClient run.world.logs.items) plan.clients run.clients.items)
     (drivers_are : run.drivers.items ≡ drivers_from plan.arrivals 0 (map (pass_with 2) run.world.logs.items))
-    (workers_are : run.workers.items ≡ workers_from 0 seats (map (pass_with 1) run.world.logs.items) takes (map (λ k. column k rows) (range_with_len 0 plan.setting.n)))
+    (workers_are : run.workers.items
+    ≡ workers_from 0 seats (map (pass_with 1) run.world.logs.items) takes (map (λ k. column k rows) (range_with_len 0 plan.setting.n)))
     (due_is : run.due ≡ due_of plan.setting.n plan.faulty (map (λ s. s.feed.txs) seats))
     (turns_none : run.turns ≡ 0) where
   abbrev n : ℕ
@@ -112,17 +116,20 @@ module _ {S A : Type 0} (plan : Plan) (run : Run S) (m : Meaning S) (shape : A �
       let count = seat_count in
       let (s, is) = found_at seats at (omega (arith, count, lt)) in
       let io : slice_get own at ≡ Some (pass_with 1 l) = slice_get-map (pass_with 1) logs at ∙ ap (option_map (pass_with 1)) il in
-      let it : slice_get takes at ≡ Some (receiver_in b []) = ap (λ (l : List Receiver). slice_get l at) takes_are ∙ slice_get-map (λ (x : Box). receiver_in x []) boxes at ∙ ap (option_map (λ (x : Box). receiver_in x [])) ib in
+      let it : slice_get takes at ≡ Some (receiver_in b []) = ap (λ (l : List Receiver). slice_get l at) takes_are
+      ∙ slice_get-map (λ (x : Box). receiver_in x []) boxes at ∙ ap (option_map (λ (x : Box). receiver_in x [])) ib in
       let none : 0 + at ≡ at = omega arith in
       let ir : slice_get sends at ≡ Some (column at rows) =
-      slice_get-map (λ k. column k rows) (range_with_len 0 n) at ∙ ap (option_map (λ (k : ℕ). column k rows)) (range_at 0 n at lt) ∙ ap (λ (k : ℕ). Some (column k rows)) none in record {
+      slice_get-map (λ k. column k rows) (range_with_len 0 n) at ∙ ap (option_map (λ (k : ℕ). column k rows)) (range_at 0 n at lt)
+      ∙ ap (λ (k : ℕ). Some (column k rows)) none in record {
         log = l;
         box = b;
         seat = s;
         is_log = il;
         is_box = ib;
         is_seat = is;
-        worker = workers_at 0 seats own takes sends at s (pass_with 1 l) (receiver_in b []) (column at rows) is io it ir ∙ ap (λ (k : ℕ). Some (worker_with k s (pass_with 1 l) (receiver_in b []) (column at rows))) none;
+        worker = workers_at 0 seats own takes sends at s (pass_with 1 l) (receiver_in b []) (column at rows) is io it ir
+            ∙ ap (λ (k : ℕ). Some (worker_with k s (pass_with 1 l) (receiver_in b []) (column at rows))) none;
       }
 
   in_run : (at : ℕ) (w : Working S) → slice_get ws at ≡ Some w → slice_get run.workers.items at ≡ Some w
@@ -131,7 +138,8 @@ module _ {S A : Type 0} (plan : Plan) (run : Run S) (m : Meaning S) (shape : A �
   worker_ready : (at : ℕ) → at < n → (w : Working S) → slice_get ws at ≡ Some w → Ready logs boxes w
   worker_ready at lt w is =
       let a : AtPlace at = at_place at lt in
-      let same : worker_with at a.seat (pass_with 1 a.log) (receiver_in a.box []) (column at rows) ≡ w = same_Some (worker_with at a.seat (pass_with 1 a.log) (receiver_in a.box []) (column at rows)) w (sym a.worker ∙ is) in
+      let same : worker_with at a.seat (pass_with 1 a.log) (receiver_in a.box []) (column at rows) ≡ w =
+      same_Some (worker_with at a.seat (pass_with 1 a.log) (receiver_in a.box []) (column at rows)) w (sym a.worker ∙ is) in
       subst (Ready logs boxes) same (
         record {
           log = (a.log, a.is_log, refl);
@@ -158,7 +166,8 @@ module _ {S A : Type 0} (plan : Plan) (run : Run S) (m : Meaning S) (shape : A �
       both [] = refl
       both (s ∷ ss) = ap (λ (l : List (List Tx)). s.feed.txs ∷ l) (both ss)
 
-      each : (ss : List A) → map (λ (r : Shape). r.feed.txs) (map (λ s. fresh_replica plan (shape s)) ss) ≡ map (λ at. txs_of (timed_for plan at)) (map (λ s. (shape s).replica) ss)
+      each : (ss : List A) → map (λ (r : Shape). r.feed.txs) (map (λ s. fresh_replica plan (shape s)) ss)
+          ≡ map (λ at. txs_of (timed_for plan at)) (map (λ s. (shape s).replica) ss)
       each [] = refl
       each (s ∷ ss) = ap (λ (l : List (List Tx)). txs_of (timed_for plan (shape s).replica) ∷ l) (each ss)
 
@@ -168,17 +177,20 @@ module _ {S A : Type 0} (plan : Plan) (run : Run S) (m : Meaning S) (shape : A �
     boxes = boxes_count;
     workers = ap length workers_are ∙ worker_count;
     ready = subst (All (Ready logs boxes)) (sym workers_are) workers_ready;
-    of = all_places (OfClient logs) run.clients.items (λ k c is. (let (p, there, new) = zip_back (IsNewClient logs) plan.clients run.clients.items k c clients is in new.of));
+    of = all_places (OfClient logs) run.clients.items
+        (λ k c is. (let (p, there, new) = zip_back (IsNewClient logs) plan.clients run.clients.items k c clients is in new.of));
     seats = λ k w is. seated 0 seats own takes sends k w (ap (λ (l : List (Working S)). slice_get l k) (sym workers_are) ∙ is) ∙ omega arith;
     replicas = λ at lt. (
         let a : AtPlace at = at_place at lt in
         (worker_with at a.seat (pass_with 1 a.log) (receiver_in a.box []) (column at rows), in_run at _ a.worker, (refl, refl), refl));
     clients = zip_map (IsNewClient logs) IsClientOf (λ p c new. (new.id, new.count)) plan.clients run.clients.items clients;
     drivers = subst (AllZip IsDriverOf logs) (sym drivers_are) (drivers_of_logs plan.arrivals 0 logs);
-    parts = subst (AllZip (λ l d. l.parts ≡ d.pass.parts + 1 + length plan.clients) logs) (sym drivers_are) (parts_of_logs plan.arrivals (length plan.clients) 0 logs logs_parts);
+    parts = subst (AllZip (λ l d. l.parts ≡ d.pass.parts + 1 + length plan.clients) logs) (sym drivers_are)
+        (parts_of_logs plan.arrivals (length plan.clients) 0 logs logs_parts);
     given = λ at d is. (
         let none : 0 + at ≡ at = omega arith in
-        subst (λ (i : ℕ). HasGiven (arrivals_for plan.arrivals i) d) none (given_at plan.arrivals 0 logs at d (ap (λ (l : List Driver). slice_get l at) (sym drivers_are) ∙ is)));
+        subst (λ (i : ℕ). HasGiven (arrivals_for plan.arrivals i) d) none
+        (given_at plan.arrivals 0 logs at d (ap (λ (l : List Driver). slice_get l at) (sym drivers_are) ∙ is)));
     due = due_is ∙ ap (due_of n plan.faulty) feeds_are;
   }
 
@@ -198,13 +210,16 @@ module _ {S A : Type 0} (plan : Plan) (run : Run S) (m : Meaning S) (shape : A �
     seat_is : (at : ℕ) (s : Seated S) → at < n → slice_get seats at ≡ Some s → replica_of m s ≡ fresh_replica plan (signer at capacity (gives at) 0)
     seat_is at s lt is =
         let none : 0 + at ≡ at = omega arith in
-        let first : slice_get (map (replica_of m) seats) at ≡ Some (replica_of m s) = slice_get-map (replica_of m) seats at ∙ ap (option_map (replica_of m)) is in
+        let first : slice_get (map (replica_of m) seats) at ≡ Some (replica_of m s) =
+        slice_get-map (replica_of m) seats at ∙ ap (option_map (replica_of m)) is in
         let second : slice_get (map (fresh_replica plan) (map shape sealers)) at ≡ Some (fresh_replica plan (signer at capacity (gives at) 0)) =
         ap (λ (l : List Signer). slice_get (map (fresh_replica plan) l) at) signers
         ∙ slice_get-map (fresh_replica plan) (fresh_signers plan gives capacity) at
-        ∙ ap (option_map (fresh_replica plan)) (slice_get-map (λ (i : ℕ). signer i capacity (gives i) 0) (everyone plan) at ∙ ap (option_map (λ (i : ℕ). signer i capacity (gives i) 0)) (range_at 0 n at lt))
+        ∙ ap (option_map (fresh_replica plan)) (slice_get-map (λ (i : ℕ). signer i capacity (gives i) 0) (everyone plan) at
+        ∙ ap (option_map (λ (i : ℕ). signer i capacity (gives i) 0)) (range_at 0 n at lt))
         ∙ ap (λ (i : ℕ). Some (fresh_replica plan (signer i capacity (gives i) 0))) none in
-        same_Some (replica_of m s) (fresh_replica plan (signer at capacity (gives at) 0)) (sym first ∙ ap (λ (l : List Shape). slice_get l at) (seats_are ∙ two sealers) ∙ second)
+        same_Some (replica_of m s) (fresh_replica plan (signer at capacity (gives at) 0))
+        (sym first ∙ ap (λ (l : List Shape). slice_get l at) (seats_are ∙ two sealers) ∙ second)
       where
         two : (ss : List A) → map (λ s. fresh_replica plan (shape s)) ss ≡ map (fresh_replica plan) (map shape ss)
         two [] = refl
@@ -215,7 +230,9 @@ module _ {S A : Type 0} (plan : Plan) (run : Run S) (m : Meaning S) (shape : A �
         let a : AtPlace at = at_place at lt in
         ap (λ (o : Option (Working S)). option_map_or journal_of o []) (in_run at _ a.worker) ∙ ap (λ (r : Shape). r.journal) (seat_is at a.seat lt a.is_seat)
 
-    new_worker : (at : ℕ) → (lt : at < n) → IsNew plan m (gives at) capacity at (worker_with at (at_place at lt).seat (pass_with 1 (at_place at lt).log) (receiver_in (at_place at lt).box []) (column at rows))
+    new_worker : (at : ℕ) → (lt : at < n)
+        → IsNew plan m (gives at) capacity
+        at (worker_with at (at_place at lt).seat (pass_with 1 (at_place at lt).log) (receiver_in (at_place at lt).box []) (column at rows))
     new_worker at lt = record {
       place = refl;
       replica = seat_is at (at_place at lt).seat lt (at_place at lt).is_seat;
@@ -259,7 +276,8 @@ module _ {S A : Type 0} (plan : Plan) (run : Run S) (m : Meaning S) (shape : A �
         fresh : (at : ℕ) (d : Driver) → slice_get run.drivers.items at ≡ Some d → (d.pass.own ≡ []) × (d.feed.left ≡ arrivals_for plan.arrivals at)
         fresh at d is =
             let none : 0 + at ≡ at = omega arith in
-            subst (λ (i : ℕ). (d.pass.own ≡ []) × (d.feed.left ≡ arrivals_for plan.arrivals i)) none (fresh_at plan.arrivals 0 logs at d (ap (λ (l : List Driver). slice_get l at) (sym drivers_are) ∙ is))
+            subst (λ (i : ℕ). (d.pass.own ≡ []) × (d.feed.left ≡ arrivals_for plan.arrivals i)) none
+            (fresh_at plan.arrivals 0 logs at d (ap (λ (l : List Driver). slice_get l at) (sym drivers_are) ∙ is))
 
   pub begins : run.ticks ≡ 0 → Begins plan m (map shape sealers) run
   begins no_ticks = record { manned = manned; counted = counted no_ticks; ticks = no_ticks; going = going }

@@ -46,16 +46,19 @@ joined_more ps qs a b c x y = record {
 -- ---- rows, where the first ones lost their first element
 
 module _ {X : Type 0} where
-  pub first_rows : (k : ℕ) (rows : List (List X)) (d : List X) → k < length rows → column 0 (take k rows) ++ option_to_list (slice_get (get_or rows k d) 0) ≡ column 0 (take (k + 1) rows)
+  pub first_rows : (k : ℕ) (rows : List (List X)) (d : List X) → k < length rows
+      → column 0 (take k rows) ++ option_to_list (slice_get (get_or rows k d) 0) ≡ column 0 (take (k + 1) rows)
   first_rows k [] d lt = absurd (omega (arith, lt))
   first_rows zero (r ∷ rows) d lt = sym (append-nil (option_to_list (slice_get r 0)))
   first_rows (suc k) (r ∷ rows) d lt =
       let next : suc (k + 1) ≡ suc k + 1 = omega arith in
-      subst (λ (n : ℕ). column 0 (take (suc k) (r ∷ rows)) ++ option_to_list (slice_get (get_or (r ∷ rows) (suc k) d) 0) ≡ column 0 (take n (r ∷ rows))) next (append_assoc (option_to_list (slice_get r 0)) (column 0 (take k rows)) (option_to_list (slice_get (get_or rows k d) 0))
+      subst (λ (n : ℕ). column 0 (take (suc k) (r ∷ rows)) ++ option_to_list (slice_get (get_or (r ∷ rows) (suc k) d) 0) ≡ column 0 (take n (r ∷ rows))) next
+      (append_assoc (option_to_list (slice_get r 0)) (column 0 (take k rows)) (option_to_list (slice_get (get_or rows k d) 0))
       ∙ ap (λ (l : List X). option_to_list (slice_get r 0) ++ l) (first_rows k rows d (omega (arith, lt))))
 
   -- what holds of the first of each row
-  pub first_of_row : (P : X → Type 0) (rows : List (List X)) (k : ℕ) (d : List X) → k < length rows → All P (column 0 rows) → All P (option_to_list (slice_get (get_or rows k d) 0))
+  pub first_of_row : (P : X → Type 0) (rows : List (List X)) (k : ℕ) (d : List X) → k < length rows → All P (column 0 rows)
+      → All P (option_to_list (slice_get (get_or rows k d) 0))
   first_of_row P [] k d lt all = absurd (omega (arith, lt))
   first_of_row P (r ∷ rows) zero d lt all = all_prefix P (option_to_list (slice_get r 0)) (column 0 rows) all
   first_of_row P (r ∷ rows) (suc k) d lt all = first_of_row P rows k d (omega (arith, lt)) (all_back P (option_to_list (slice_get r 0)) (column 0 rows) all)
@@ -72,9 +75,12 @@ row_at (x ∷ cs) zero d = refl
 row_at (x ∷ cs) (suc k) d = row_at cs k d
 
 -- the client whose turn it is has all its passes
-module _ (now first : List ClientWorker) (k : ℕ) (c : ClientWorker) (rest : rows_of now ≡ changed (λ row. remove row 0) k (rows_of first)) (is : c ≡ get_or now k c) where
+module _ (now first : List ClientWorker) (k : ℕ) (c : ClientWorker) (rest : rows_of now ≡ changed (λ row. remove row 0) k (rows_of first))
+    (is : c ≡ get_or now k c) where
   pub row_now : c.passes.items ≡ get_or (rows_of first) k c.passes.items
-  row_now = ap (λ (x : ClientWorker). x.passes.items) is ∙ row_at now k c ∙ ap (λ (rows : List (List (Known Tx))). get_or rows k c.passes.items) rest ∙ changed_at (λ row. remove row 0) k (rows_of first) c.passes.items
+  row_now = ap (λ (x : ClientWorker). x.passes.items) is
+      ∙ row_at now k c ∙ ap (λ (rows : List (List (Known Tx))). get_or rows k c.passes.items) rest
+      ∙ changed_at (λ row. remove row 0) k (rows_of first) c.passes.items
 
   pub passes_now : (P : Known Tx → Type 0) → k < length first → All P (column 0 (rows_of first)) → All P (option_to_list (slice_get c.passes.items 0))
   passes_now P lt all =
@@ -86,14 +92,17 @@ module _ (now first : List ClientWorker) (k : ℕ) (c : ClientWorker) (rest : ro
       let len : k < length (rows_of first) = (let l = length-map first (λ (x : ClientWorker). x.passes.items) in omega (arith, l, lt)) in
       subst (λ (row : List (Known Tx)). 0 < length row) (sym row_now) (all k c.passes.items len)
 
-  pub joined_now : (a b p : Known Tx) → k < length first → HasJoined (column 0 (take k (rows_of first))) a b → HasJoined (option_to_list (slice_get c.passes.items 0)) b p → HasJoined (column 0 (take (k + 1) (rows_of first))) a p
+  pub joined_now : (a b p : Known Tx) → k < length first → HasJoined (column 0 (take k (rows_of first))) a b
+      → HasJoined (option_to_list (slice_get c.passes.items 0)) b p → HasJoined (column 0 (take (k + 1) (rows_of first))) a p
   joined_now a b p lt x y =
       let len : k < length (rows_of first) = (let l = length-map first (λ (z : ClientWorker). z.passes.items) in omega (arith, l, lt)) in
-      let one : HasJoined (option_to_list (slice_get (get_or (rows_of first) k c.passes.items) 0)) b p = subst (λ (row : List (Known Tx)). HasJoined (option_to_list (slice_get row 0)) b p) row_now y in
+      let one : HasJoined (option_to_list (slice_get (get_or (rows_of first) k c.passes.items) 0)) b p =
+      subst (λ (row : List (Known Tx)). HasJoined (option_to_list (slice_get row 0)) b p) row_now y in
       subst (λ (ps : List (Known Tx)). HasJoined ps a p) (first_rows k (rows_of first) c.passes.items len)
       (joined_more (column 0 (take k (rows_of first))) (option_to_list (slice_get (get_or (rows_of first) k c.passes.items) 0)) a b p x one)
 
-  pub rest_now : (d : ClientWorker) → k < length first → d.passes.items ≡ remove c.passes.items 0 → rows_of (slice_set now k d) ≡ changed (λ row. remove row 0) (k + 1) (rows_of first)
+  pub rest_now : (d : ClientWorker) → k < length first → d.passes.items ≡ remove c.passes.items 0
+      → rows_of (slice_set now k d) ≡ changed (λ row. remove row 0) (k + 1) (rows_of first)
   rest_now d lt same =
       let len : k < length (rows_of first) = (let l = length-map first (λ (z : ClientWorker). z.passes.items) in omega (arith, l, lt)) in
       rows_set now k d
@@ -101,13 +110,15 @@ module _ (now first : List ClientWorker) (k : ℕ) (c : ClientWorker) (rest : ro
       ∙ ap (λ (rows : List (List (Known Tx))). slice_set rows k (remove (get_or (rows_of first) k c.passes.items) 0)) rest
       ∙ changed_more (λ row. remove row 0) k (rows_of first) c.passes.items len
 
-pub rest_all : (now first : List ClientWorker) (k : ℕ) → k ≡ length first → rows_of now ≡ changed (λ row. remove row 0) k (rows_of first) → rows_of now ≡ later_columns (rows_of first)
+pub rest_all : (now first : List ClientWorker) (k : ℕ) → k ≡ length first → rows_of now ≡ changed (λ row. remove row 0) k (rows_of first)
+    → rows_of now ≡ later_columns (rows_of first)
 rest_all now first k is rest =
     let len : k ≡ length (rows_of first) = is ∙ sym (length-map first (λ (z : ClientWorker). z.passes.items)) in
     rest ∙ ap (λ (n : ℕ). changed (λ row. remove row 0) n (rows_of first)) len ∙ changed_all (λ row. remove row 0) (rows_of first)
 
 -- the list of a log, once all its passes are joined
-pub list_is : (d w p q : Known Tx) (rest : List (Known Tx)) (list : List Tx) → p ≡ joined d w → IsPrefix d.seen p.seen → IsPrefix w.seen p.seen → HasJoined rest p q → OwnsAll q → IsArrivals q.seen → list ≡ q.seen
+pub list_is : (d w p q : Known Tx) (rest : List (Known Tx)) (list : List Tx) → p ≡ joined d w → IsPrefix d.seen p.seen
+    → IsPrefix w.seen p.seen → HasJoined rest p q → OwnsAll q → IsArrivals q.seen → list ≡ q.seen
     → IsListOf (d ∷ w ∷ rest) list
 list_is d w p q rest list is first second j owns arrivals same =
     subst (IsListOf (d ∷ w ∷ rest)) (sym same) (record {

@@ -60,7 +60,8 @@ module _ {S : Type 0} (fits : Check) (plan : Plan) (m : Meaning S) (gives : ℕ 
       rw (journal_is workers from v v_is, journal_is workers to w w_is) (all_given fits plan m gives capacity from to v w t sv sw look)
 
   -- whatever the answer, what was delivered begins what the links give
-  pub links_are : (whole : Bool) (workers : List (Working S)) → AllStand fits plan m gives capacity workers → AllCompared whole workers → AreLinked plan (journals_at workers)
+  pub links_are : (whole : Bool) (workers : List (Working S)) → AllStand fits plan m gives capacity workers → AllCompared whole workers
+      → AreLinked plan (journals_at workers)
   links_are whole workers all c from to f t =
       let (v, v_is, sv) = all from f in
       let (w, w_is, sw) = all to t in
@@ -80,7 +81,8 @@ module _ {S : Type 0} (fits : Check) (plan : Plan) (m : Meaning S) (gives : ℕ 
           at = ap (λ (x : Working S). x.at) h.rest ∙ s.did.at;
           replica = ap (replica_of m) seat_is ∙ s.did.replica;
           sends = ap (λ (x : Working S). x.sends) h.rest ∙ s.did.sends;
-          take = subst (λ (p : Receiver). p ≡ taken_with s.first.take (events_of v.seat.journal) p.heard) (sym (ap (λ (x : Working S). x.take) h.rest)) s.did.take;
+          take = subst (λ (p : Receiver). p ≡ taken_with s.first.take (events_of v.seat.journal) p.heard)
+              (sym (ap (λ (x : Working S). x.take) h.rest)) s.did.take;
           turns = ap (λ (x : Working S). x.turns) h.rest ∙ s.did.turns;
           log = looked_on s.first.log v.log w.log s.did.log h.looked;
           knows = same ∙ s.did.knows;

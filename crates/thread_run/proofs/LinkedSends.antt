@@ -32,7 +32,8 @@ passed_all link (s ∷ ss) = passed_all (passed link s) ss
 
 given-append : (link : Link) (xs ys : List (List ℕ)) → given_in_all link (xs ++ ys) ≡ given_in_all link xs ++ given_in_all (passed_all link xs) ys
 given-append link [] ys = refl
-given-append link (x ∷ xs) ys = ap (λ (l : List (List ℕ)). given_by link x ++ l) (given-append (passed link x) xs ys) ∙ sym (append_assoc (given_by link x) (given_in_all (passed link x) xs) (given_in_all (passed_all (passed link x) xs) ys))
+given-append link (x ∷ xs) ys = ap (λ (l : List (List ℕ)). given_by link x ++ l) (given-append (passed link x) xs ys)
+    ∙ sym (append_assoc (given_by link x) (given_in_all (passed link x) xs) (given_in_all (passed_all (passed link x) xs) ys))
 
 passed-append : (link : Link) (xs ys : List (List ℕ)) → passed_all link (xs ++ ys) ≡ passed_all (passed_all link xs) ys
 passed-append link [] ys = refl
@@ -66,8 +67,11 @@ gave_one from j link w s found = elim (cases_Bool (s.to == j)) [
       let here : s.to ≡ j = grind (arith, nat_tests) in
       let at : slice_get w.links s.to ≡ Some link = ap (slice_get w.links) here ∙ found in
       rw (so, at) (record {
-        link_is = subst (λ (k : ℕ). slice_get (slice_set w.links s.to (passed link s.bytes)) k ≡ Some (passed link s.bytes)) here (get_set w.links s.to (passed link s.bytes) link at);
-        way_is = way-append j w.queue (enveloped from s.to (given_by link s.bytes)) ∙ ap (λ (l : List (List ℕ)). on_way_to j w.queue ++ l) (way_here j from s.to (given_by link s.bytes) so ∙ sym (append-nil (given_by link s.bytes)));
+        link_is = subst (λ (k : ℕ). slice_get (slice_set w.links s.to (passed link s.bytes)) k ≡ Some (passed link s.bytes)) here
+            (get_set w.links s.to (passed link s.bytes) link at);
+        way_is = way-append j w.queue (enveloped from s.to (given_by link s.bytes))
+            ∙ ap (λ (l : List (List ℕ)). on_way_to j w.queue ++ l)
+            (way_here j from s.to (given_by link s.bytes) so ∙ sym (append-nil (given_by link s.bytes)));
       }))
   | inr not_so ↦ (
       let other : s.to ≡ j → ⊥ = λ e. absurd (grind (arith, nat_tests)) in
@@ -78,13 +82,15 @@ gave_one from j link w s found = elim (cases_Bool (s.to == j)) [
     there not_so other None = record { link_is = found; way_is = sym (append-nil (on_way_to j w.queue)) }
     there not_so other (Some l) = record {
       link_is = get_other w.links s.to j (passed l s.bytes) other ∙ found;
-      way_is = way-append j w.queue (enveloped from s.to (given_by l s.bytes)) ∙ ap (λ (x : List (List ℕ)). on_way_to j w.queue ++ x) (way_there j from s.to (given_by l s.bytes) not_so);
+      way_is = way-append j w.queue (enveloped from s.to (given_by l s.bytes))
+          ∙ ap (λ (x : List (List ℕ)). on_way_to j w.queue ++ x) (way_there j from s.to (given_by l s.bytes) not_so);
     }
 
 gave_more : (j : ℕ) (link : Link) (xs ys : List (List ℕ)) (a b c : Way) → Gave j link xs a b → Gave j (passed_all link xs) ys b c → Gave j link (xs ++ ys) a c
 gave_more j link xs ys a b c one two = record {
   link_is = two.link_is ∙ ap Some (sym (passed-append link xs ys));
-  way_is = two.way_is ∙ ap (λ (l : List (List ℕ)). l ++ given_in_all (passed_all link xs) ys) one.way_is ∙ append_assoc (on_way_to j a.queue) (given_in_all link xs) (given_in_all (passed_all link xs) ys)
+  way_is = two.way_is ∙ ap (λ (l : List (List ℕ)). l ++ given_in_all (passed_all link xs) ys) one.way_is
+      ∙ append_assoc (on_way_to j a.queue) (given_in_all link xs) (given_in_all (passed_all link xs) ys)
       ∙ ap (λ (l : List (List ℕ)). on_way_to j a.queue ++ l) (sym (given-append link xs ys));
 }
 
@@ -94,7 +100,8 @@ to-cons j s sends = elim (cases_Bool (s.to == j)) [
   | inr not_so ↦ rw not_so refl
 ]
 
-gave_all : (from j : ℕ) (link : Link) (sends : List Outgoing) (w : Way) → slice_get w.links j ≡ Some link → Gave j link (bytes_to j sends) w (fold (sent from) w sends)
+gave_all : (from j : ℕ) (link : Link) (sends : List Outgoing) (w : Way) → slice_get w.links j ≡ Some link
+    → Gave j link (bytes_to j sends) w (fold (sent from) w sends)
 gave_all from j link [] w found = record { link_is = found; way_is = sym (append-nil (on_way_to j w.queue)) }
 gave_all from j link (s ∷ sends) w found =
     let first = gave_one from j link w s found in
@@ -108,14 +115,16 @@ module _ (fits : Check) (plan : Plan) (at : ℕ) where
   links_stay : (r : Replica) (o : Outcome) → (reported_after plan at r o).replica.links ≡ r.links
   links_stay r o = by (is_among plan.faulty at)
     where
-      by : (b : Bool) → (if b then Rattle.replica_seat.specs.Acting.deeds_acted plan r o else Rattle.replica_seat.specs.Acting.node_acted r o).replica.links ≡ r.links
+      by : (b : Bool)
+          → (if b then Rattle.replica_seat.specs.Acting.deeds_acted plan r o else Rattle.replica_seat.specs.Acting.node_acted r o).replica.links ≡ r.links
       by true = refl
       by false = refl
 
   journal_stays : (r : Replica) (o : Outcome) → (reported_after plan at r o).replica.journal ≡ r.journal
   journal_stays r o = by (is_among plan.faulty at)
     where
-      by : (b : Bool) → (if b then Rattle.replica_seat.specs.Acting.deeds_acted plan r o else Rattle.replica_seat.specs.Acting.node_acted r o).replica.journal ≡ r.journal
+      by : (b : Bool)
+          → (if b then Rattle.replica_seat.specs.Acting.deeds_acted plan r o else Rattle.replica_seat.specs.Acting.node_acted r o).replica.journal ≡ r.journal
       by true = refl
       by false = refl
 
@@ -135,10 +144,12 @@ module _ (fits : Check) (plan : Plan) (at : ℕ) where
   unfolding after_event
   journal_one r e = ap (λ (l : List Entry). l ++ entry_of r e ∷ []) (journal_stays r (turn_of fits r.gives r.state e))
 
-  one_on : (r : Replica) (e : Event) (es : List Event) → acts fits plan at (begin fits plan at r) (e ∷ es) ≡ following (after_event fits plan at r [] e).queue (acts fits plan at (begin fits plan at (after_event fits plan at r [] e).replica) es)
+  one_on : (r : Replica) (e : Event) (es : List Event) → acts fits plan at (begin fits plan at r) (e ∷ es)
+      ≡ following (after_event fits plan at r [] e).queue (acts fits plan at (begin fits plan at (after_event fits plan at r [] e).replica) es)
   one_on r e es =
       let a : After = after_event fits plan at r [] e in
-      ap (λ (q : List Envelope). acts fits plan at (record { replica = a.replica; queue = q }) es) (sym (append-nil a.queue)) ∙ acts_after fits plan at a.queue (begin fits plan at a.replica) es
+      ap (λ (q : List Envelope). acts fits plan at (record { replica = a.replica; queue = q }) es) (sym (append-nil a.queue))
+      ∙ acts_after fits plan at a.queue (begin fits plan at a.replica) es
 
   pub journal_is : (r : Replica) (events : List Event) → (acts fits plan at (begin fits plan at r) events).replica.journal ≡ r.journal ++ entries r events
   journal_is r [] = sym (append-nil r.journal)
@@ -149,7 +160,8 @@ module _ (fits : Check) (plan : Plan) (at : ℕ) where
       ∙ append_assoc r.journal (entry_of r e ∷ []) (entries (after_event fits plan at r [] e).replica es)
 
   gave_event : (r : Replica) (e : Event) (j : ℕ) (link : Link) → slice_get r.links j ≡ Some link
-      → Gave j link (bytes_to j (acted fits plan at r e).reported.sends) (way r.links []) (way (after_event fits plan at r [] e).replica.links (after_event fits plan at r [] e).queue)
+      → Gave j link (bytes_to j (acted fits plan at r e).reported.sends) (way r.links [])
+      (way (after_event fits plan at r [] e).replica.links (after_event fits plan at r [] e).queue)
   unfolding after_event sent_all
   gave_event r e j link found =
       let a : Acted = acted fits plan at r e in
@@ -174,7 +186,8 @@ module _ (fits : Check) (plan : Plan) (at : ℕ) where
 -- ---- passes
 
 -- what a pass has sent, after these envelopes
-pub posted_to : (sends : List Sender) (queue : List Envelope) (j : ℕ) (p : Sender) → slice_get sends j ≡ Some p → slice_get (posted sends queue) j ≡ Some (record p { sent = p.sent ++ on_way_to j queue })
+pub posted_to : (sends : List Sender) (queue : List Envelope) (j : ℕ) (p : Sender) → slice_get sends j ≡ Some p
+    → slice_get (posted sends queue) j ≡ Some (record p { sent = p.sent ++ on_way_to j queue })
 unfolding posted
 posted_to sends [] j p found = found ∙ ap (λ (l : List (List ℕ)). Some (record p { sent = l })) (sym (append-nil p.sent))
 posted_to sends (e ∷ es) j p found = elim (cases_Bool (e.to == j)) [
@@ -183,8 +196,10 @@ posted_to sends (e ∷ es) j p found = elim (cases_Bool (e.to == j)) [
       let at : slice_get sends e.to ≡ Some p = ap (slice_get sends) here ∙ found in
       let one : slice_get (posted_one sends e) j ≡ Some (sent_more p e.bytes) =
       ap (λ (o : Option Sender). slice_get (posted_for sends e o) j) at
-      ∙ subst (λ (k : ℕ). slice_get (slice_set sends e.to (sent_more p e.bytes)) k ≡ Some (sent_more p e.bytes)) here (get_set sends e.to (sent_more p e.bytes) p at) in
-      rw so (posted_to (posted_one sends e) es j (sent_more p e.bytes) one ∙ ap (λ (l : List (List ℕ)). Some (record p { sent = l })) (append_assoc p.sent (e.bytes ∷ []) (on_way_to j es))))
+      ∙ subst (λ (k : ℕ). slice_get (slice_set sends e.to (sent_more p e.bytes)) k ≡ Some (sent_more p e.bytes)) here
+      (get_set sends e.to (sent_more p e.bytes) p at) in
+      rw so (posted_to (posted_one sends e) es j (sent_more p e.bytes) one
+      ∙ ap (λ (l : List (List ℕ)). Some (record p { sent = l })) (append_assoc p.sent (e.bytes ∷ []) (on_way_to j es))))
   | inr not_so ↦ (
       let other : e.to ≡ j → ⊥ = λ is. absurd (grind (arith, nat_tests)) in
       rw not_so (posted_to (posted_one sends e) es j p (elsewhere other (slice_get sends e.to))))

@@ -36,7 +36,8 @@ module _ {X : Type 0} (f : X → X) where
 module _ {X : Type 0} (P : X → Type 0) where
   pub all_more : (xs : List X) (k : ℕ) (x : X) → k < length xs → All P (take k xs) → x ≡ get_or xs k x → P x → All P (take (k + 1) xs)
   all_more xs k x lt all is here =
-      subst (All P) (sym (take_more xs k x lt)) (All-append P (take k xs) (get_or xs k x ∷ []) all (All-cons P (get_or xs k x) [] (subst P is here) (All-nil P)))
+      subst (All P) (sym (take_more xs k x lt))
+      (All-append P (take k xs) (get_or xs k x ∷ []) all (All-cons P (get_or xs k x) [] (subst P is here) (All-nil P)))
 
   pub all_taken : (xs : List X) (k : ℕ) → length xs ≤ k → All P (take k xs) → All P xs
   all_taken xs k le all = subst (All P) (take_all k xs le) all

@@ -54,7 +54,8 @@ one_client_hears cs i d c h = zip_one ReportedClient client_self cs i d c h
 pub drivers_self : (ds : List Driver) → AllZip DriverHears ds ds
 drivers_self ds = zip_self DriverHears driver_self ds
 
-pub drivers_on : (xs bs : List Driver) (i : ℕ) (d c : Driver) → AllZip DriverHears xs bs → DriverHears (get_or bs i d) c → AllZip DriverHears xs (slice_set bs i c)
+pub drivers_on : (xs bs : List Driver) (i : ℕ) (d c : Driver) → AllZip DriverHears xs bs → DriverHears (get_or bs i d) c
+    → AllZip DriverHears xs (slice_set bs i c)
 drivers_on xs bs i d c z h = zip_on DriverHears driver_on xs bs (slice_set bs i c) z (zip_one DriverHears driver_self bs i d c h)
 
 module _ {S : Type 0} where
@@ -98,7 +99,8 @@ pub holds_none : (seen : List Tx) (cs : List ClientWorker) → HoldsFirst 0 seen
 holds_none seen cs i c lt is = absurd (omega (arith, lt))
 
 -- one client more
-pub holds_more : (k : ℕ) (seen more : List Tx) (cs : List ClientWorker) (c : ClientWorker) → IsPrefix seen more → HoldsFirst k seen cs → HoldsOf more c → HoldsFirst (k + 1) more (slice_set cs k c)
+pub holds_more : (k : ℕ) (seen more : List Tx) (cs : List ClientWorker) (c : ClientWorker) → IsPrefix seen more → HoldsFirst k seen cs
+    → HoldsOf more c → HoldsFirst (k + 1) more (slice_set cs k c)
 holds_more k seen more cs c p held one i d lt is = elim (cases_Bool (i == k)) [
   | inl yes_so ↦ (
       let same : i ≡ k = grind (arith, nat_tests) in
@@ -111,7 +113,8 @@ holds_more k seen more cs c p held one i d lt is = elim (cases_Bool (i == k)) [
 ]
 
 -- what a client's pass has seen holds all that it has submitted
-pub held_of : (logs : List Log) (c : ClientWorker) (k : ℕ) (d : Known Tx) (seen : List Tx) → OfClient logs c → k < length logs → IsPrefix (get_or c.passes.items k d).seen seen
+pub held_of : (logs : List Log) (c : ClientWorker) (k : ℕ) (d : Known Tx) (seen : List Tx) → OfClient logs c → k < length logs
+    → IsPrefix (get_or c.passes.items k d).seen seen
     → c.fault ≡ None → HoldsEach seen (numbered c.id c.next)
 held_of logs c k d seen of lt p none =
     let n = zip_length IsPassOf logs c.passes.items of.passes in
@@ -119,18 +122,21 @@ held_of logs c k d seen of lt p none =
 
 module _ {S : Type 0} where
   -- a worker that has seen all that the driver had heard of the clients
-  reported_all : (old seen : List Tx) (cs : List ClientWorker) (w : Working S) → IsPrefix old seen → HoldsFirst (length cs) seen cs → IsPrefix seen w.log.seen → IsReportedAll old cs w
+  reported_all : (old seen : List Tx) (cs : List ClientWorker) (w : Working S) → IsPrefix old seen → HoldsFirst (length cs) seen cs
+      → IsPrefix seen w.log.seen → IsReportedAll old cs w
   reported_all old seen cs w p held s = (
     prefix_trans old seen w.log.seen p s,
     λ i c is. holds_on seen w.log.seen c c s (client_self c) (held i c (slice_get_within cs i c is) is),
   )
 
-  pub reported_at : (old seen : List Tx) (cs : List ClientWorker) (ws : List (Working S)) (k : ℕ) (w d : Working S) → k < length ws → IsPrefix old seen → HoldsFirst (length cs) seen cs → IsPrefix seen w.log.seen
+  pub reported_at : (old seen : List Tx) (cs : List ClientWorker) (ws : List (Working S)) (k : ℕ) (w d : Working S) → k < length ws
+      → IsPrefix old seen → HoldsFirst (length cs) seen cs → IsPrefix seen w.log.seen
       → IsReportedAll old cs (get_or (slice_set ws k w) k d)
   reported_at old seen cs ws k w d lt p held s = subst (IsReportedAll old cs) (sym (or_set ws k w d lt)) (reported_all old seen cs w p held s)
 
   -- a worker that was informed of everything stays so, while it and the clients are informed of more
-  reported_on : (old : List Tx) (cs ds : List ClientWorker) (v w : Working S) → AllZip ReportedClient cs ds → ReportedWorker v w → IsReportedAll old cs v → IsReportedAll old ds w
+  reported_on : (old : List Tx) (cs ds : List ClientWorker) (v w : Working S) → AllZip ReportedClient cs ds → ReportedWorker v w
+      → IsReportedAll old cs v → IsReportedAll old ds w
   reported_on old cs ds v w z h t = (
     prefix_trans old v.log.seen w.log.seen t.0 h.looked.later,
     λ i d is. (let (c, at, hear) = zip_back ReportedClient cs ds i d z is in holds_on v.log.seen w.log.seen c d h.looked.later hear (t.1 i c at)),
@@ -141,21 +147,26 @@ module _ {S : Type 0} where
   seated_on vs ws z seats k w is = (let (v, at, h) = zip_back ReportedWorker vs ws k w z is in ap (λ (x : Working S). x.at) h.rest ∙ seats k v at)
 
   -- a pass of the log at a place is one of the log of the worker there
-  pub pass_at : (logs : List Log) (pass : Known Tx) (k : ℕ) (ws : List (Working S)) (d : Working S) → AreSeated ws → k < length ws → ((o : Log) → IsPassOf (get_or logs k o) pass)
+  pub pass_at : (logs : List Log) (pass : Known Tx) (k : ℕ) (ws : List (Working S)) (d : Working S) → AreSeated ws → k < length ws
+      → ((o : Log) → IsPassOf (get_or logs k o) pass)
       → (o : Log) → IsPassOf (get_or logs (get_or ws k d).at o) pass
-  pass_at logs pass k ws d seats lt own o = subst (λ (j : ℕ). IsPassOf (get_or logs j o) pass) (sym (seats k (get_or ws k d) (slice_get-get_or ws k d lt))) (own o)
+  pass_at logs pass k ws d seats lt own o =
+      subst (λ (j : ℕ). IsPassOf (get_or logs j o) pass) (sym (seats k (get_or ws k d) (slice_get-get_or ws k d lt))) (own o)
 
   reported_less : (less seen : List Tx) (cs : List ClientWorker) (w : Working S) → IsPrefix less seen → IsReportedAll seen cs w → IsReportedAll less cs w
   reported_less less seen cs w p t = (prefix_trans less seen w.log.seen p t.0, t.1)
 
   -- one log more
-  pub reported_more : (ds now : List Driver) (cs cs' : List ClientWorker) (ws ws' : List (Working S)) (k : ℕ) → AllZip DriverHears ds now → AllZip ReportedClient cs cs' → AllZip ReportedWorker ws ws'
-      → k < length now → k < length ws' → ReportedFirst k ds ws cs → ((d : Driver) → ReportedAt k (get_or now k d).pass.seen ws' cs') → ReportedFirst (k + 1) ds ws' cs'
+  pub reported_more : (ds now : List Driver) (cs cs' : List ClientWorker) (ws ws' : List (Working S)) (k : ℕ) → AllZip DriverHears ds now
+      → AllZip ReportedClient cs cs' → AllZip ReportedWorker ws ws'
+      → k < length now → k < length ws' → ReportedFirst k ds ws cs → ((d : Driver) → ReportedAt k (get_or now k d).pass.seen ws' cs')
+      → ReportedFirst (k + 1) ds ws' cs'
   reported_more ds now cs cs' ws ws' k dz cz wz lt len reported last j d jk e = elim (cases_Bool (j == k)) [
     | inl yes_so ↦ (
         let same : k ≡ j = grind (arith, nat_tests) in
         let at : IsReportedAll (get_or ds k d).pass.seen cs' (get_or ws' k e) =
-        reported_less (get_or ds k d).pass.seen (get_or now k d).pass.seen cs' (get_or ws' k e) (zip_at DriverHears ds now k d d dz lt).looked.later (last d e) in
+        reported_less (get_or ds k d).pass.seen (get_or now k d).pass.seen cs' (get_or ws' k e)
+        (zip_at DriverHears ds now k d d dz lt).looked.later (last d e) in
         subst (λ (i : ℕ). IsReportedAll (get_or ds i d).pass.seen cs' (get_or ws' i e)) same at)
     | inr not_so ↦ (
         let below : j < k = grind (arith, nat_tests) in
@@ -179,16 +190,20 @@ module _ {S : Type 0} where
   seen_set (x ∷ cs) (suc k) c lt = seen_set cs k c (omega (arith, lt))
 
   -- the driver has seen what a worker had seen
-  pub heard_back : (cs ds : List (Working S)) (k : ℕ) (c : Working S) (seen : List Tx) → k < length ds → AllZip ReportedWorker cs (slice_set ds k c) → IsPrefix (seen_by c) seen → IsPrefix (seen_at cs k) seen
-  heard_back cs ds k c seen lt z p = prefix_trans (seen_at cs k) (seen_by c) seen (subst (IsPrefix (seen_at cs k)) (seen_set ds k c lt) (place_seen cs (slice_set ds k c) k z)) p
+  pub heard_back : (cs ds : List (Working S)) (k : ℕ) (c : Working S) (seen : List Tx) → k < length ds
+      → AllZip ReportedWorker cs (slice_set ds k c) → IsPrefix (seen_by c) seen → IsPrefix (seen_at cs k) seen
+  heard_back cs ds k c seen lt z p = prefix_trans (seen_at cs k) (seen_by c) seen
+      (subst (IsPrefix (seen_at cs k)) (seen_set ds k c lt) (place_seen cs (slice_set ds k c) k z)) p
 
   -- one log more
-  pub heard_more : (first mid : List (Working S)) (ds : List Driver) (k : ℕ) (e : Driver) → AllZip ReportedWorker first mid → k < length ds → HeardFirst k first ds → IsPrefix (seen_at mid k) e.pass.seen → HeardFirst (k + 1) first (slice_set ds k e)
+  pub heard_more : (first mid : List (Working S)) (ds : List Driver) (k : ℕ) (e : Driver) → AllZip ReportedWorker first mid → k < length ds
+      → HeardFirst k first ds → IsPrefix (seen_at mid k) e.pass.seen → HeardFirst (k + 1) first (slice_set ds k e)
   heard_more first mid ds k e z lt heard last j d below = elim (cases_Bool (k == j)) [
     | inl yes_so ↦ (
         let same : k ≡ j = grind (arith, nat_tests) in
         let here : IsPrefix (seen_at first k) (get_or (slice_set ds k e) k d).pass.seen =
-        subst (λ (x : Driver). IsPrefix (seen_at first k) x.pass.seen) (sym (or_set ds k e d lt)) (prefix_trans (seen_at first k) (seen_at mid k) e.pass.seen (place_seen first mid k z) last) in
+        subst (λ (x : Driver). IsPrefix (seen_at first k) x.pass.seen) (sym (or_set ds k e d lt))
+        (prefix_trans (seen_at first k) (seen_at mid k) e.pass.seen (place_seen first mid k z) last) in
         subst (λ (i : ℕ). IsPrefix (seen_at first i) (get_or (slice_set ds k e) i d).pass.seen) same here)
     | inr not_so ↦ (
         let other : k ≡ j → ⊥ = λ is. absurd (grind (arith, nat_tests)) in

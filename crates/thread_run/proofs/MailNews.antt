@@ -37,7 +37,8 @@ get_between [] x back d = refl
 get_between (z ∷ prefix) x back d = get_between prefix x back d
 
 -- the item at a place is exchanged, where the list is cut before and after it
-pub exchanged : {X : Type 0} (f : List X → X → X) (all prefix rest own back : List X) (at : ℕ) (x d new : X) → all ≡ prefix ++ rest → length prefix ≡ at → rest ≡ own ++ back → length own ≡ 1
+pub exchanged : {X : Type 0} (f : List X → X → X) (all prefix rest own back : List X) (at : ℕ) (x d new : X) → all ≡ prefix ++ rest
+    → length prefix ≡ at → rest ≡ own ++ back → length own ≡ 1
     → new ≡ f (prefix ++ get_or own 0 x ∷ back) (get_or own 0 x) → prefix ++ (slice_set own 0 new ++ back) ≡ slice_set all at (f all (get_or all at d))
 exchanged {X = X} f all prefix rest own back at x d new cut len cut' one is =
     let y : X = get_or own 0 x in
@@ -57,11 +58,13 @@ all_before P all prefix rest cut a = λ i d lt. of_prefix P all prefix rest i d 
 pub all_after : {X : Type 0} (P : X → Type 0) (all prefix rest : List X) → all ≡ prefix ++ rest → All P all → All P rest
 all_after {X = X} P all prefix rest cut a = λ i d lt.
     let whole : length all ≡ length prefix + length rest = ap length cut ∙ length-append prefix rest in
-    let same : get_or all (length prefix + i) d ≡ get_or rest i d = ap (λ (l : List X). get_or l (length prefix + i) d) cut ∙ get_or-append-add prefix rest i d in
+    let same : get_or all (length prefix + i) d ≡ get_or rest i d = ap (λ (l : List X). get_or l (length prefix + i) d) cut
+    ∙ get_or-append-add prefix rest i d in
     subst P same (a (length prefix + i) d (omega (arith, whole, lt)))
 
 -- what holds of each exchanged item and one
-zip_unmap : {X Y : Type 0} (R Q : X → Y → Type 0) (f : X → X) → ((x : X) (y : Y) → R (f x) y → Q x y) → (xs : List X) (ys : List Y) → AllZip R (map f xs) ys → AllZip Q xs ys
+zip_unmap : {X Y : Type 0} (R Q : X → Y → Type 0) (f : X → X) → ((x : X) (y : Y) → R (f x) y → Q x y) → (xs : List X) (ys : List Y)
+    → AllZip R (map f xs) ys → AllZip Q xs ys
 zip_unmap R Q f g [] [] z = tt
 zip_unmap R Q f g [] (y ∷ ys) z = absurd z
 zip_unmap R Q f g (x ∷ xs) [] z = absurd z
@@ -81,10 +84,12 @@ module _ {S : Type 0} where
       by None = refl
       by (Some p) = refl
 
-  heard_all_only : (at : ℕ) (senders : List (Working S)) (t : Receiver) → fold (heard_from at) t senders ≡ record t { heard = (fold (heard_from at) t senders).heard }
+  heard_all_only : (at : ℕ) (senders : List (Working S)) (t : Receiver)
+      → fold (heard_from at) t senders ≡ record t { heard = (fold (heard_from at) t senders).heard }
   heard_all_only at [] t = refl
   heard_all_only at (c ∷ senders) t =
-      heard_all_only at senders (heard_from at t c) ∙ ap (λ (x : Receiver). record x { heard = (fold (heard_from at) (heard_from at t c) senders).heard }) (heard_only at t c)
+      heard_all_only at senders (heard_from at t c)
+      ∙ ap (λ (x : Receiver). record x { heard = (fold (heard_from at) (heard_from at t c) senders).heard }) (heard_only at t c)
 
   -- ---- the workers stay ready
 
@@ -108,7 +113,8 @@ module _ {S : Type 0} where
     ready_informed : (senders : List (Working S)) (w : Working S) → Ready logs boxes w → Ready logs boxes (informed senders w)
     ready_informed senders w r = (belongs_informed senders w r.0, r.1)
 
-    pub ready_changed : (senders : List (Working S)) (k : ℕ) (cs : List (Working S)) → All (Ready logs boxes) cs → All (Ready logs boxes) (changed (informed senders) k cs)
+    pub ready_changed : (senders : List (Working S)) (k : ℕ) (cs : List (Working S)) → All (Ready logs boxes) cs
+        → All (Ready logs boxes) (changed (informed senders) k cs)
     ready_changed senders zero cs all = all
     ready_changed senders (suc k) [] all = all
     ready_changed senders (suc k) (c ∷ cs) all =
@@ -118,16 +124,19 @@ module _ {S : Type 0} where
   -- ---- one after another
 
   -- a worker hears of one sender more
-  pub hears_more : (senders : List (Working S)) (k : ℕ) (d : Working S) (first now next : Working S) → k < length senders → now ≡ informed (take k senders) first
+  pub hears_more : (senders : List (Working S)) (k : ℕ) (d : Working S) (first now next : Working S) → k < length senders
+      → now ≡ informed (take k senders) first
       → next ≡ record now { take = heard_from now.at now.take (get_or senders k d) } → next ≡ informed (take (k + 1) senders) first
   hears_more senders k d first now next lt is more =
       more
       ∙ ap (λ (w : Working S). record w { take = heard_from w.at w.take (get_or senders k d) }) is
       ∙ ap (λ (t : Receiver). record first { take = t })
-      (sym (ap (fold (heard_from first.at) first.take) (take_more senders k d lt) ∙ fold-append (heard_from first.at) first.take (take k senders) (get_or senders k d ∷ [])))
+      (sym (ap (fold (heard_from first.at) first.take) (take_more senders k d lt)
+      ∙ fold-append (heard_from first.at) first.take (take k senders) (get_or senders k d ∷ [])))
 
   -- it hears of those before it, of itself and of those after it
-  pub hears_among : (prefix back : List (Working S)) (w one two three : Working S) → one ≡ informed prefix w → two ≡ record one { take = heard_of one.at one.take one.sends } → three ≡ informed back two
+  pub hears_among : (prefix back : List (Working S)) (w one two three : Working S) → one ≡ informed prefix w
+      → two ≡ record one { take = heard_of one.at one.take one.sends } → three ≡ informed back two
       → three ≡ informed (prefix ++ w ∷ back) w
   hears_among prefix back w one two three is own last =
       last
@@ -135,7 +144,8 @@ module _ {S : Type 0} where
       ∙ ap (λ (t : Receiver). record w { take = t }) (sym (fold-append (heard_from w.at) w.take prefix (w ∷ back)))
 
   -- what a worker sent is the same, also once it heard
-  same_news : (at : ℕ) (senders : List (Working S)) (k : ℕ) (cs : List (Working S)) (t : Receiver) → fold (heard_from at) t (changed (informed senders) k cs) ≡ fold (heard_from at) t cs
+  same_news : (at : ℕ) (senders : List (Working S)) (k : ℕ) (cs : List (Working S)) (t : Receiver)
+      → fold (heard_from at) t (changed (informed senders) k cs) ≡ fold (heard_from at) t cs
   same_news at senders zero cs t = refl
   same_news at senders (suc k) [] t = refl
   same_news at senders (suc k) (c ∷ cs) t = same_news at senders k cs (heard_from at t c)
@@ -194,9 +204,11 @@ module _ {S : Type 0} where
   stays_heard at (c ∷ senders) t n has = stays_heard at senders (heard_from at t c) n (still_heard at t c n has)
 
   heard_one : (at : ℕ) (t : Receiver) (s : Working S) (p : Sender) → slice_get s.sends at ≡ Some p → Contains (heard_of at t s.sends).heard (news p.from p.sent)
-  heard_one at t s p there = subst (λ (o : Option Sender). Contains (option_map_or (heard_more t) o t).heard (news p.from p.sent)) (sym there) (Contains-push t.heard (news p.from p.sent))
+  heard_one at t s p there = subst (λ (o : Option Sender). Contains (option_map_or (heard_more t) o t).heard (news p.from p.sent))
+      (sym there) (Contains-push t.heard (news p.from p.sent))
 
-  heard_each : (at : ℕ) (senders : List (Working S)) (t : Receiver) (k : ℕ) (s : Working S) (p : Sender) → slice_get senders k ≡ Some s → slice_get s.sends at ≡ Some p
+  heard_each : (at : ℕ) (senders : List (Working S)) (t : Receiver) (k : ℕ) (s : Working S) (p : Sender) → slice_get senders k ≡ Some s
+      → slice_get s.sends at ≡ Some p
       → Contains (fold (heard_from at) t senders).heard (news p.from p.sent)
   heard_each at [] t k s p is there = absurd (cc)
   heard_each at (c ∷ senders) t zero s p is there =
@@ -204,10 +216,12 @@ module _ {S : Type 0} where
       (subst (λ (x : Working S). Contains (heard_from at t x).heard (news p.from p.sent)) (sym (same_Some c s is)) (heard_one at t s p there))
   heard_each at (c ∷ senders) t (suc k) s p is there = heard_each at senders (heard_from at t c) k s p is there
 
-  took_of : EmptyLaw → (most : ℕ) (senders : List (Working S)) (v w : Working S) → Drains most (informed senders v) w → (w.turns ≡ v.turns + most) ⊎ HasAllOf senders v.at w.take.taken
+  took_of : EmptyLaw → (most : ℕ) (senders : List (Working S)) (v w : Working S) → Drains most (informed senders v) w
+      → (w.turns ≡ v.turns + most) ⊎ HasAllOf senders v.at w.take.taken
   took_of law most senders v w (inl turns) = inl turns
   took_of law most senders v w (inr empty) =
-      inr (λ k s p is there. law (record w.take { heard = (fold (heard_from v.at) v.take senders).heard }) p.from p.sent empty (heard_each v.at senders v.take k s p is there))
+      inr (λ k s p is there. law (record w.take { heard = (fold (heard_from v.at) v.take senders).heard }) p.from p.sent empty
+      (heard_each v.at senders v.take k s p is there))
 
   took_on : EmptyLaw → (most : ℕ) (senders : List (Working S)) (v w : Working S) → Drained most (informed senders v) w → Took most senders v w
   took_on law most senders v w k = λ ok. took_of law most senders v w (k ok)
@@ -221,8 +235,10 @@ module _ {S : Type 0} where
     of_heard : (R Q : Working S → Working S → Type 0) → ((c d : Working S) → R (informed cs c) d → Q c d) → AllZip R mid ds → AllZip Q cs ds
     of_heard R Q f z = zip_unmap R Q (informed cs) f cs ds (subst (λ (l : List (Working S)). AllZip R l ds) is z)
 
-    pub all_worked : (fits : Check) (plan : Plan) (m : Meaning S) (logs : List Log) (boxes : List Box) (tick : Option ℕ) → AllZip (Worked fits plan m logs boxes tick) mid ds → AllZip (Worked fits plan m logs boxes tick) cs ds
-    all_worked fits plan m logs boxes tick z = of_heard (Worked fits plan m logs boxes tick) (Worked fits plan m logs boxes tick) (worked_on fits plan m logs boxes tick cs) z
+    pub all_worked : (fits : Check) (plan : Plan) (m : Meaning S) (logs : List Log) (boxes : List Box) (tick : Option ℕ)
+        → AllZip (Worked fits plan m logs boxes tick) mid ds → AllZip (Worked fits plan m logs boxes tick) cs ds
+    all_worked fits plan m logs boxes tick z =
+        of_heard (Worked fits plan m logs boxes tick) (Worked fits plan m logs boxes tick) (worked_on fits plan m logs boxes tick cs) z
 
     pub all_few : (most : ℕ) → AllZip (DeliversFew most) mid ds → AllZip (DeliversFew most) cs ds
     all_few most z = of_heard (DeliversFew most) (DeliversFew most) (λ v w k. k) z

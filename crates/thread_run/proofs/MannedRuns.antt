@@ -48,24 +48,30 @@ module _ {S : Type 0} where
   pub serves_heard : (v w : Working S) → ReportedWorker v w → Serves v w
   serves_heard v w h = (ap (λ (x : Working S). x.at) h.rest, h.looked, λ ok. ap (λ (x : Working S). x.failed) h.rest ∙ ok)
 
-  pub manned_on : (plan : Plan) (old : Run S) (workers : List (Working S)) (clients : List ClientWorker) (drivers : List Driver) → IsManned plan old → AllZip Serves old.workers.items workers
+  pub manned_on : (plan : Plan) (old : Run S) (workers : List (Working S)) (clients : List ClientWorker) (drivers : List Driver)
+      → IsManned plan old → AllZip Serves old.workers.items workers
       → AllZip Remains old.clients.items clients → All (Ready old.world.logs.items old.world.boxes.items) workers → All (OfClient old.world.logs.items) clients
       → AllZip IsDriverOf old.world.logs.items drivers → AllZip (PartsAddUp plan) old.world.logs.items drivers
       → ((at : ℕ) (d : Driver) → slice_get drivers at ≡ Some d → HasGiven (arrivals_for plan.arrivals at) d)
-      → (new : Run S) → new.world ≡ old.world → new.due ≡ old.due → new.workers.items ≡ workers → new.clients.items ≡ clients → new.drivers.items ≡ drivers → IsManned plan new
+      → (new : Run S) → new.world ≡ old.world → new.due ≡ old.due → new.workers.items ≡ workers → new.clients.items ≡ clients
+      → new.drivers.items ≡ drivers → IsManned plan new
   manned_on plan old workers clients drivers m z r ready of own parts given new world due workers_are clients_are drivers_are = record {
     logs = ap (λ w. length w.logs.items) world ∙ m.logs;
     boxes = ap (λ w. length w.boxes.items) world ∙ m.boxes;
     workers = ap length workers_are ∙ sym (zip_length Serves old.workers.items workers z) ∙ m.workers;
-    ready = subst (λ w. All (Ready w.logs.items w.boxes.items) new.workers.items) (sym world) (subst (All (Ready old.world.logs.items old.world.boxes.items)) (sym workers_are) ready);
+    ready = subst (λ w. All (Ready w.logs.items w.boxes.items) new.workers.items) (sym world)
+        (subst (All (Ready old.world.logs.items old.world.boxes.items)) (sym workers_are) ready);
     of = subst (λ w. All (OfClient w.logs.items) new.clients.items) (sym world) (subst (All (OfClient old.world.logs.items)) (sym clients_are) of);
     seats = subst AreSeated (sym workers_are) (λ k w is. (let (v, there, s) = zip_back Serves old.workers.items workers k w z is in s.0 ∙ m.seats k v there));
-    replicas = subst (λ (ws : List (Working S)). (at : ℕ) → at < plan.setting.n → (w : Working S) × (slice_get ws at ≡ Some w) × IsFresh w.log × (w.failed ≡ false)) (sym workers_are) (λ at lt.
+    replicas = subst (λ (ws : List (Working S)). (at : ℕ)
+        → at < plan.setting.n → (w : Working S) × (slice_get ws at ≡ Some w) × IsFresh w.log × (w.failed ≡ false))
+        (sym workers_are) (λ at lt.
         let (v, is, fresh, ok) = m.replicas at lt in
         let (w, here, s) = zip_there Serves old.workers.items workers at v z is in (w, here, fresh_on v.log w.log s.1 fresh, s.2 ok));
     clients = subst (AllZip IsClientOf plan.clients) (sym clients_are) (clients_on plan.clients old.clients.items clients m.clients r);
     drivers = subst (λ w. AllZip IsDriverOf w.logs.items new.drivers.items) (sym world) (subst (AllZip IsDriverOf old.world.logs.items) (sym drivers_are) own);
-    parts = subst (λ w. AllZip (PartsAddUp plan) w.logs.items new.drivers.items) (sym world) (subst (AllZip (PartsAddUp plan) old.world.logs.items) (sym drivers_are) parts);
+    parts = subst (λ w. AllZip (PartsAddUp plan) w.logs.items new.drivers.items) (sym world)
+        (subst (AllZip (PartsAddUp plan) old.world.logs.items) (sym drivers_are) parts);
     given = subst (λ (ds : List Driver). (at : ℕ) (d : Driver) → slice_get ds at ≡ Some d → HasGiven (arrivals_for plan.arrivals at) d) (sym drivers_are) given;
     due = due ∙ m.due;
   }

@@ -42,10 +42,13 @@ stand_longer log (k ∷ ks) (x ∷ xs) more (inl s) = inl (s.0, stand_longer log
 stand_longer log (k ∷ ks) (x ∷ xs) more (inr s) = inr (stand_longer log (k ∷ ks) xs more s)
 
 -- a claim of a part of a list, in what a pass has seen, is one of the whole in the log
-stands_in : (seen log : List Tx) (own : List ℕ) (txs more all : List Tx) → IsPrefix seen log → all ≡ txs ++ more → Stands seen (record { own = own; list = txs }) → Stands log (record { own = own; list = all })
+stands_in : (seen log : List Tx) (own : List ℕ) (txs more all : List Tx) → IsPrefix seen log → all ≡ txs ++ more
+    → Stands seen (record { own = own; list = txs }) → Stands log (record { own = own; list = all })
 stands_in seen log own txs more all le is s =
-    let there : Stands log (record { own = own; list = txs }) = subst (λ (l : List Tx). Stands l (record { own = own; list = txs })) le.1 (stands_within seen le.0 own txs s) in
-    subst (λ (l : List Tx). Stands log (record { own = own; list = l })) (sym is) (record { rise = there.rise; stand = stand_longer log own txs more there.stand })
+    let there : Stands log (record { own = own; list = txs }) =
+    subst (λ (l : List Tx). Stands l (record { own = own; list = txs })) le.1 (stands_within seen le.0 own txs s) in
+    subst (λ (l : List Tx). Stands log (record { own = own; list = l })) (sym is)
+    (record { rise = there.rise; stand = stand_longer log own txs more there.stand })
 
 held_in : (seen log txs : List Tx) → IsPrefix seen log → HoldsEach seen txs → HoldsEach log txs
 held_in seen log txs le h = subst (λ (l : List Tx). HoldsEach l txs) le.1 (held_grow seen le.0 txs h)
@@ -116,13 +119,15 @@ claims_of k (p ∷ ps) [] = []
 claims_of k (p ∷ ps) (c ∷ cs) = claim_of k p c ∷ claims_of k ps cs
 
 module _ (logs : List Log) where
-  lists_are : (k : ℕ) (ps : List Sender) (cs : List ClientWorker) → AllZip (HasClient logs) ps cs → map (λ (c : Claim). c.list) (claims_of k ps cs) ≡ map client_list ps
+  lists_are : (k : ℕ) (ps : List Sender) (cs : List ClientWorker) → AllZip (HasClient logs) ps cs
+      → map (λ (c : Claim). c.list) (claims_of k ps cs) ≡ map client_list ps
   lists_are k [] [] z = refl
   lists_are k [] (c ∷ cs) z = refl
   lists_are k (p ∷ ps) [] z = absurd z
   lists_are k (p ∷ ps) (c ∷ cs) z = ap (λ (l : List (List Tx)). client_list p ∷ l) (lists_are k ps cs z.1)
 
-  own_is : (k : ℕ) (ps : List Sender) (cs : List ClientWorker) → AllZip (HasClient logs) ps cs → flat_map (λ (c : Claim). c.own) (claims_of k ps cs) ≡ flat_map (λ p. p.own) (column k (rows_of cs))
+  own_is : (k : ℕ) (ps : List Sender) (cs : List ClientWorker) → AllZip (HasClient logs) ps cs
+      → flat_map (λ (c : Claim). c.own) (claims_of k ps cs) ≡ flat_map (λ p. p.own) (column k (rows_of cs))
   own_is k [] [] z = refl
   own_is k [] (c ∷ cs) z = absurd z
   own_is k (p ∷ ps) [] z = absurd z
@@ -143,15 +148,19 @@ module _ (logs : List Log) where
   claim_at k (suc j) (p ∷ ps) (x ∷ cs) c z found = claim_at k j ps cs c z.1 found
 
   -- what the passes of a client at a log have seen begins the list
-  seen_by : (k j : ℕ) (cs : List ClientWorker) (c : ClientWorker) (q : Known Tx) (list : List Tx) → All (λ p. IsPrefix p.seen list) (column k (rows_of cs)) → slice_get cs j ≡ Some c → slice_get c.passes.items k ≡ Some q → IsPrefix q.seen list
+  seen_by : (k j : ℕ) (cs : List ClientWorker) (c : ClientWorker) (q : Known Tx) (list : List Tx)
+      → All (λ p. IsPrefix p.seen list) (column k (rows_of cs)) → slice_get cs j ≡ Some c
+      → slice_get c.passes.items k ≡ Some q → IsPrefix q.seen list
   seen_by k j [] c q list all found at = absurd (cc)
   seen_by k zero (x ∷ cs) c q list all found at =
       let same : x ≡ c = same_Some x c found in
       let here : slice_get x.passes.items k ≡ Some q = ap (λ (y : ClientWorker). slice_get y.passes.items k) same ∙ at in
       let prefix = all_prefix (λ (p : Known Tx). IsPrefix p.seen list) (option_to_list (slice_get x.passes.items k)) (column k (rows_of cs)) all in
-      All-head (λ (p : Known Tx). IsPrefix p.seen list) q [] (subst (λ (o : Option (Known Tx)). All (λ (p : Known Tx). IsPrefix p.seen list) (option_to_list o)) here prefix)
+      All-head (λ (p : Known Tx). IsPrefix p.seen list) q []
+      (subst (λ (o : Option (Known Tx)). All (λ (p : Known Tx). IsPrefix p.seen list) (option_to_list o)) here prefix)
   seen_by k (suc j) (x ∷ cs) c q list all found at =
-      seen_by k j cs c q list (all_back (λ (p : Known Tx). IsPrefix p.seen list) (option_to_list (slice_get x.passes.items k)) (column k (rows_of cs)) all) found at
+      seen_by k j cs c q list
+      (all_back (λ (p : Known Tx). IsPrefix p.seen list) (option_to_list (slice_get x.passes.items k)) (column k (rows_of cs)) all) found at
 
   pass_at : (k : ℕ) (c : ClientWorker) → OfClient logs c → k < length logs → (q : Known Tx) × (slice_get c.passes.items k ≡ Some q)
   pass_at k c of lt = (let n = zip_length IsPassOf logs c.passes.items of.passes in found_at c.passes.items k (omega (arith, n, lt)))
@@ -160,7 +169,8 @@ module _ (logs : List Log) where
   whole_list p c h = ap (λ (i : ℕ). numbered i p.count) (sym h.id) ∙ ap (numbered c.id) (sym h.count)
 
   -- at a client's places of a log stand transactions of its list
-  client_stands : (k : ℕ) (p : Sender) (c : ClientWorker) (q : Known Tx) (list : List Tx) → HasClient logs p c → slice_get c.passes.items k ≡ Some q → IsPrefix q.seen list → Stands list (claim_of k p c)
+  client_stands : (k : ℕ) (p : Sender) (c : ClientWorker) (q : Known Tx) (list : List Tx) → HasClient logs p c
+      → slice_get c.passes.items k ≡ Some q → IsPrefix q.seen list → Stands list (claim_of k p c)
   client_stands k p c q list h at le =
       let n : k < length c.passes.items = slice_get_within c.passes.items k q at in
       let same : get_or c.passes.items k q ≡ q = get_or_from_slice_get c.passes.items k q q at in
@@ -170,17 +180,20 @@ module _ (logs : List Log) where
       subst (λ (o : Option (Known Tx)). Stands list (record { own = own_of o; list = client_list p })) (sym at)
       (stands_in q.seen list q.own (numbered c.id (tried c.next c.fault)) more (client_list p) le (whole_list p c h ∙ is) stand)
 
-  each_stands : (k : ℕ) (ps : List Sender) (cs : List ClientWorker) (list : List Tx) → k < length logs → AllZip (HasClient logs) ps cs → All (λ p. IsPrefix p.seen list) (column k (rows_of cs)) → All (Stands list) (claims_of k ps cs)
+  each_stands : (k : ℕ) (ps : List Sender) (cs : List ClientWorker) (list : List Tx) → k < length logs → AllZip (HasClient logs) ps cs
+      → All (λ p. IsPrefix p.seen list) (column k (rows_of cs)) → All (Stands list) (claims_of k ps cs)
   each_stands k [] cs list lt z all = All-nil (Stands list)
   each_stands k (p ∷ ps) [] list lt z all = absurd z
   each_stands k (p ∷ ps) (c ∷ cs) list lt z all =
       let (q, at) = pass_at k c z.0.of lt in
       All-cons (Stands list) (claim_of k p c) (claims_of k ps cs)
       (client_stands k p c q list z.0 at (seen_by k 0 (c ∷ cs) c q list all refl at))
-      (each_stands k ps cs list lt z.1 (all_back (λ (p : Known Tx). IsPrefix p.seen list) (option_to_list (slice_get c.passes.items k)) (column k (rows_of cs)) all))
+      (each_stands k ps cs list lt z.1
+      (all_back (λ (p : Known Tx). IsPrefix p.seen list) (option_to_list (slice_get c.passes.items k)) (column k (rows_of cs)) all))
 
   -- a log holds what a client has, once it was submitted
-  each_held : (k : ℕ) (ps : List Sender) (cs : List ClientWorker) (list : List Tx) → k < length logs → AllZip (HasClient logs) ps cs → All (λ c. c.fault ≡ None) cs → All (λ p. IsPrefix p.seen list) (column k (rows_of cs))
+  each_held : (k : ℕ) (ps : List Sender) (cs : List ClientWorker) (list : List Tx) → k < length logs → AllZip (HasClient logs) ps cs
+      → All (λ c. c.fault ≡ None) cs → All (λ p. IsPrefix p.seen list) (column k (rows_of cs))
       → HoldEach list (claims_of k ps cs)
   each_held k [] cs list lt z none all = All-nil (λ (c : Claim). HoldsEach list c.list)
   each_held k (p ∷ ps) [] list lt z none all = absurd z
@@ -221,7 +234,8 @@ module _ (plan : Plan) (logs : List Log) (cs : List ClientWorker) (laws : MergeL
     seen_driver = All-head (λ p. IsPrefix p.seen list) d.pass (w ∷ column k (rows_of cs)) is.seen
 
     pub seen_worker : IsPrefix w.seen list
-    seen_worker = All-head (λ p. IsPrefix p.seen list) w (column k (rows_of cs)) (All-tail (λ p. IsPrefix p.seen list) d.pass (w ∷ column k (rows_of cs)) is.seen)
+    seen_worker = All-head (λ p. IsPrefix p.seen list) w (column k (rows_of cs))
+        (All-tail (λ p. IsPrefix p.seen list) d.pass (w ∷ column k (rows_of cs)) is.seen)
 
     given_is : txs_of (arrivals_for plan.arrivals k) ≡ txs_of e.given.given ++ txs_of d.feed.left
     given_is = ap txs_of e.given.all_is ∙ map-append (λ t. t.tx) e.given.given d.feed.left
@@ -236,7 +250,8 @@ module _ (plan : Plan) (logs : List Log) (cs : List ClientWorker) (laws : MergeL
       distinct = is.arrivals.distinct;
       owned = λ x. ap (times x) own_claims ∙ is.owned x;
       each = All-cons (Stands list) (record { own = d.pass.own; list = txs_of (arrivals_for plan.arrivals k) }) (claims_of k plan.clients cs)
-          (stands_in d.pass.seen list d.pass.own (txs_of e.given.given) (txs_of d.feed.left) (txs_of (arrivals_for plan.arrivals k)) seen_driver given_is e.given.tried.stand)
+          (stands_in d.pass.seen list d.pass.own (txs_of e.given.given) (txs_of d.feed.left)
+          (txs_of (arrivals_for plan.arrivals k)) seen_driver given_is e.given.tried.stand)
           (each_stands logs k plan.clients cs list e.below clients seen_all);
     }
 
@@ -244,7 +259,8 @@ module _ (plan : Plan) (logs : List Log) (cs : List ClientWorker) (laws : MergeL
     short = (let len = ap length (all_txs k d) in let s = e.room.short in omega (arith, len, s))
 
     -- where all has room, the log was never full as long as it lacked something of a claim
-    not_full : (j : ℕ) (c : Claim) (t : Tx) (prefix : List Tx) → slice_get (all_claims k d) j ≡ Some c → holds t c.list ≡ true → IsPrefix prefix list → length prefix ≡ 65536 → holds t prefix ≡ false → ⊥
+    not_full : (j : ℕ) (c : Claim) (t : Tx) (prefix : List Tx) → slice_get (all_claims k d) j ≡ Some c → holds t c.list ≡ true
+        → IsPrefix prefix list → length prefix ≡ 65536 → holds t prefix ≡ false → ⊥
     not_full j c t prefix at has le full none =
         let same : prefix ≡ list = none_more prefix le.0 list le.1 full is.arrivals.within in
         let lacks : holds t list ≡ false = ap (holds t) (sym same) ∙ none in
@@ -257,15 +273,19 @@ module _ (plan : Plan) (logs : List Log) (cs : List ClientWorker) (laws : MergeL
     driver_took = no_fault d.fault e.had (λ full. (
         let (t, has, was) = e.given.tried.full full in
         let (prefix, begins, many, lacks) = was in
-        let in_all : holds t (txs_of (arrivals_for plan.arrivals k)) ≡ true = ap (holds t) given_is ∙ holds_longer t (txs_of e.given.given) (txs_of d.feed.left) has in
-        not_full 0 (record { own = d.pass.own; list = txs_of (arrivals_for plan.arrivals k) }) t prefix refl in_all (prefix_trans prefix d.pass.seen list begins seen_driver) many lacks))
+        let in_all : holds t (txs_of (arrivals_for plan.arrivals k)) ≡ true =
+        ap (holds t) given_is ∙ holds_longer t (txs_of e.given.given) (txs_of d.feed.left) has in
+        not_full 0 (record { own = d.pass.own; list = txs_of (arrivals_for plan.arrivals k) }) t prefix refl in_all
+        (prefix_trans prefix d.pass.seen list begins seen_driver) many lacks))
 
     -- and each client
-    pub client_found_room : (j : ℕ) (c : ClientWorker) (q : Known Tx) → slice_get cs j ≡ Some c → c.fault ≡ Some Full → slice_get c.passes.items k ≡ Some q → IsFullFor (numbered_tx c.id (c.next + 1)) q → ⊥
+    pub client_found_room : (j : ℕ) (c : ClientWorker) (q : Known Tx) → slice_get cs j ≡ Some c → c.fault ≡ Some Full
+        → slice_get c.passes.items k ≡ Some q → IsFullFor (numbered_tx c.id (c.next + 1)) q → ⊥
     client_found_room j c q at fault found full =
         let (p, h, claim) = claim_at logs k j plan.clients cs c clients at in
         let within : c.next + 1 ≤ c.count = subst (λ (o : Option SubmitFault). tried c.next o ≤ c.count) fault h.of.within in
-        let has : holds (numbered_tx c.id (c.next + 1)) (client_list p) ≡ true = ap (holds (numbered_tx c.id (c.next + 1))) (whole_list logs p c h) ∙ numbered_holds c.id c.count c.next within in
+        let has : holds (numbered_tx c.id (c.next + 1)) (client_list p) ≡ true =
+        ap (holds (numbered_tx c.id (c.next + 1))) (whole_list logs p c h) ∙ numbered_holds c.id c.count c.next within in
         not_full (suc j) (claim_of k p c) (numbered_tx c.id (c.next + 1)) q.seen claim has (seen_by logs k j cs c q list seen_all at found) full.0 full.1
 
     held_all : All (λ c. c.fault ≡ None) cs → HoldEach list (all_claims k d)
@@ -273,7 +293,8 @@ module _ (plan : Plan) (logs : List Log) (cs : List ClientWorker) (laws : MergeL
         let took : HoldsEach d.pass.seen (txs_of e.given.given) = e.given.tried.held driver_took in
         let whole : txs_of e.given.given ≡ txs_of (arrivals_for plan.arrivals k) =
         sym (given_is ∙ ap (λ (l : List TimedTx). txs_of e.given.given ++ txs_of l) (e.ends driver_took) ∙ append-nil (txs_of e.given.given)) in
-        All-cons (λ (c : Claim). HoldsEach list c.list) (record { own = d.pass.own; list = txs_of (arrivals_for plan.arrivals k) }) (claims_of k plan.clients cs)
+        All-cons (λ (c : Claim). HoldsEach list c.list) (record { own = d.pass.own; list = txs_of (arrivals_for plan.arrivals k) })
+        (claims_of k plan.clients cs)
         (subst (HoldsEach list) whole (held_in d.pass.seen list (txs_of e.given.given) seen_driver took))
         (each_held logs k plan.clients cs list e.below clients none seen_all)
 

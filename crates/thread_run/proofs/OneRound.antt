@@ -61,7 +61,8 @@ client_remains logs c d k = (k.1.same.0, k.1.same.1)
 
 module _ {S : Type 0} (fits : Check) (plan : Plan) (m : Meaning S) (tick : Option ℕ) (old new : Run S) (s : IsStep fits plan m tick old new) where
   pub step_counted : IsCounted plan old → new.turns < plan.turns + 32 * plan.setting.n → IsCounted plan new
-  step_counted counted few = record { turns = s.turns; few = few; few_ticks = subst (λ (k : ℕ). k ≤ plan.ticks) (sym (ap (λ (r : Run S). r.ticks) s.same)) counted.few_ticks }
+  step_counted counted few =
+      record { turns = s.turns; few = few; few_ticks = subst (λ (k : ℕ). k ≤ plan.ticks) (sym (ap (λ (r : Run S). r.ticks) s.same)) counted.few_ticks }
 
   pub step_manned : KeepsRules plan → IsManned plan old → new.turns < plan.turns + 32 * plan.setting.n → IsManned plan new
   step_manned rules manned few =
@@ -71,13 +72,17 @@ module _ {S : Type 0} (fits : Check) (plan : Plan) (m : Meaning S) (tick : Optio
       manned_on plan old new.workers.items new.clients.items old.drivers.items manned
       (all_serve fits plan m old.world.logs.items old.world.boxes.items tick old.workers.items new.workers.items s.worked s.none)
       (zip_map (ClientWorked old.world.logs.items) Remains (client_remains old.world.logs.items) old.clients.items new.clients.items s.went)
-      (all_ready fits plan m old.world.logs.items old.world.boxes.items tick old.workers.items new.workers.items s.worked s.none (omega (arith, most, n, sum, few)))
-      (all_places (OfClient old.world.logs.items) new.clients.items (λ k d is. (let (c, there, went) = zip_back (ClientWorked old.world.logs.items) old.clients.items new.clients.items k d s.went is in went.0)))
-      manned.drivers manned.parts manned.given new (ap (λ (r : Run S). r.world) s.same) (ap (λ (r : Run S). r.due) s.same) refl refl (ap (λ (r : Run S). r.drivers.items) s.same)
+      (all_ready fits plan m old.world.logs.items old.world.boxes.items tick old.workers.items new.workers.items s.worked s.none
+      (omega (arith, most, n, sum, few)))
+      (all_places (OfClient old.world.logs.items) new.clients.items
+      (λ k d is. (let (c, there, went) = zip_back (ClientWorked old.world.logs.items) old.clients.items new.clients.items k d s.went is in went.0)))
+      manned.drivers manned.parts manned.given new (ap (λ (r : Run S). r.world) s.same) (ap (λ (r : Run S). r.due) s.same) refl refl
+      (ap (λ (r : Run S). r.drivers.items) s.same)
 
   pub step_taken : AllTaken new.drivers.items new.clients.items → AllTaken old.drivers.items old.clients.items
   step_taken t = record {
-    drivers_took = subst (λ (ds : List Driver). (at : ℕ) (d : Driver) → slice_get ds at ≡ Some d → d.fault ≡ None) (ap (λ (r : Run S). r.drivers.items) s.same) t.drivers_took;
+    drivers_took = subst (λ (ds : List Driver). (at : ℕ) (d : Driver) → slice_get ds at ≡ Some d → d.fault ≡ None)
+        (ap (λ (r : Run S). r.drivers.items) s.same) t.drivers_took;
     clients_took = λ k c is.
         let (d, here, went) = zip_there (ClientWorked old.world.logs.items) old.clients.items new.clients.items k c s.went is in
         (went.1.next (t.clients_took k d here)).0;
@@ -85,7 +90,8 @@ module _ {S : Type 0} (fits : Check) (plan : Plan) (m : Meaning S) (tick : Optio
 
 -- ---- counts and views over the places
 
-module _ {S : Type 0} (fits : Check) (plan : Plan) (m : Meaning S) (gives : ℕ → Gives) (capacity : ℕ) (run : Run S) (manned : IsManned plan run) (stand : AllStand fits plan m gives capacity run.workers.items) where
+module _ {S : Type 0} (fits : Check) (plan : Plan) (m : Meaning S) (gives : ℕ → Gives) (capacity : ℕ) (run : Run S)
+    (manned : IsManned plan run) (stand : AllStand fits plan m gives capacity run.workers.items) where
   abbrev workers : List (Working S)
   workers = run.workers.items
 
@@ -108,7 +114,8 @@ module _ {S : Type 0} (fits : Check) (plan : Plan) (m : Meaning S) (gives : ℕ 
   pub counted_turns : sum_by turns_by workers ≡ turns_at plan (journals_at workers)
   counted_turns =
       fold_places (λ a w. a + turns_by w) (λ a at. a + deliveries (events_of (journals_at workers at))) workers 0 0
-      (λ i w b is. (let at : 0 + i ≡ i = omega arith in ap (λ (k : ℕ). b + k) (turns_are i w is) ∙ ap (λ (k : ℕ). b + deliveries (events_of (journals_at workers k))) (sym at)))
+      (λ i w b is. (let at : 0 + i ≡ i = omega arith in
+      ap (λ (k : ℕ). b + k) (turns_are i w is) ∙ ap (λ (k : ℕ). b + deliveries (events_of (journals_at workers k))) (sym at)))
       ∙ ap (λ (n : ℕ). fold (λ a at. a + deliveries (events_of (journals_at workers at))) 0 (range_with_len 0 n)) manned.workers
 
   abbrev lift : ℕ → ℕ → ℕ
@@ -122,7 +129,8 @@ module _ {S : Type 0} (fits : Check) (plan : Plan) (m : Meaning S) (gives : ℕ 
       let view : w.seat.node.state.known.view ≡ view_at fits plan gives capacity (journals_at workers) i =
       ap (λ (r : SeatedReplica). r.state.known.view) replica
       ∙ ap (λ (j : List Entry). (after_events fits plan (gives i) capacity i (events_of j)).replica.state.known.view) (sym (journal_is workers i w is)) in
-      ap (λ (k : ℕ). if is_among plan.faulty k then b else max w.seat.node.state.known.view b) place ∙ ap (λ (v : ℕ). if is_among plan.faulty i then b else max v b) view
+      ap (λ (k : ℕ). if is_among plan.faulty k then b else max w.seat.node.state.known.view b) place
+      ∙ ap (λ (v : ℕ). if is_among plan.faulty i then b else max v b) view
 
   pub floor_of_all : fold (floor_by plan.faulty) 0 workers ≡ floor_at fits plan gives capacity (journals_at workers)
   floor_of_all =
@@ -149,13 +157,15 @@ module _ {S : Type 0} (fits : Check) (plan : Plan) (m : Meaning S) (gives : ℕ 
         replica = l.at;
         below = lt;
         honest = ap (is_among plan.faulty) (sym place) ∙ both.0;
-        lacks = ap (λ (b : List (List Tx)). hold_all b (due_in plan)) batches ∙ ap (λ (l : List Tx). hold_all (batches_of (replica_of m w.seat)) l) (sym manned.due) ∙ both.1;
+        lacks = ap (λ (b : List (List Tx)). hold_all b (due_in plan)) batches
+            ∙ ap (λ (l : List Tx). hold_all (batches_of (replica_of m w.seat)) l) (sym manned.due) ∙ both.1;
       }
 
 -- ---- a round keeps what was so
 
 module _ {S : Type 0} (fits : Check) (plan : Plan) (m : Meaning S) (gives : ℕ → Gives) (capacity : ℕ) where
-  pub going_step : (rounds ticks : ℕ) (tick : Option ℕ) (old new : Run S) → IsGoing fits plan m gives capacity rounds ticks old → IsStep fits plan m tick old new → IsManned plan new → IsCounted plan new
+  pub going_step : (rounds ticks : ℕ) (tick : Option ℕ) (old new : Run S) → IsGoing fits plan m gives capacity rounds ticks old
+      → IsStep fits plan m tick old new → IsManned plan new → IsCounted plan new
       → MayTick fits plan gives capacity (journals_at old.workers.items) tick → (rounds ≡ 0 → tick ≡ None)
       → (AllTaken old.drivers.items old.clients.items → (at : ℕ) → at < plan.setting.n → Holds plan at old.turns (64 * rounds) (seen_at old.workers.items at))
       → IsGoing fits plan m gives capacity (rounds + 1) (ticks + ticks_of tick) new
@@ -170,7 +180,8 @@ module _ {S : Type 0} (fits : Check) (plan : Plan) (m : Meaning S) (gives : ℕ 
         let before = g.next k c there was_none in
         let count = went.1.same.1 in
         omega (arith, next, before, count);
-    timely = timely_round plan before now tick (seen_at old.workers.items) ticks old.turns new.turns new.drivers.items round g.turns (counted.turns ∙ counted_turns fits plan m gives capacity new manned stand) manned.given
+    timely = timely_round plan before now tick (seen_at old.workers.items) ticks old.turns new.turns new.drivers.items round g.turns
+        (counted.turns ∙ counted_turns fits plan m gives capacity new manned stand) manned.given
         (subst (IsTimely plan ticks old.turns before) (ap (λ (r : Run S). r.drivers.items) (sym s.same)) g.timely);
     gone = λ taken. (let was = step_taken fits plan m tick old new s taken in go rounds tick refl first (g.gone was) round may (holds was));
   }
@@ -193,17 +204,30 @@ module _ {S : Type 0} (fits : Check) (plan : Plan) (m : Meaning S) (gives : ℕ 
       round : IsRound plan tick (seen_at old.workers.items) before now
       round = round_gains fits plan m gives capacity logs boxes tick old.workers.items new.workers.items g.stand s.worked s.none
 
-      go : (r : ℕ) (t : Option ℕ) → rounds ≡ r → (r ≡ 0 → t ≡ None) → HasGoneOn fits plan m gives capacity r ticks before → IsRound plan t (seen_at old.workers.items) before now
-          → MayTick fits plan gives capacity before t → ((at : ℕ) → at < plan.setting.n → Holds plan at old.turns (64 * rounds) (seen_at old.workers.items at)) → HasGoneOn fits plan m gives capacity (r + 1) (ticks + ticks_of t) now
+      go : (r : ℕ) (t : Option ℕ) → rounds ≡ r → (r ≡ 0 → t ≡ None) → HasGoneOn fits plan m gives capacity r ticks before
+          → IsRound plan t (seen_at old.workers.items) before now
+          → MayTick fits plan gives capacity before t
+          → ((at : ℕ) → at < plan.setting.n → Holds plan at old.turns (64 * rounds) (seen_at old.workers.items at))
+          → HasGoneOn fits plan m gives capacity (r + 1) (ticks + ticks_of t) now
       go zero (Some floor) is one gone r may' h = absurd (let bad = one refl in cc (bad))
       go zero None is one gone r may' h =
           let none : ticks + 0 ≡ 0 = (let t = gone.0 in omega (arith, t)) in
-          let opened : IsRound plan None (seen_at old.workers.items) nothing now = λ at lt. subst (λ (l : List Entry). Rattle.round_rules.specs.Rounds.Gains None (seen_at old.workers.items at) l (now at)) (gone.1 at lt) (r at lt) in
-          let less : (at : ℕ) → at < plan.setting.n → Holds plan at 0 0 (seen_at old.workers.items at) = λ at lt. Rattle.round_rules.proofs.GrownJournals.holds_less plan at old.turns 0 (64 * rounds) 0 (seen_at old.workers.items at) (omega arith) (omega arith) (h at lt) in
-          (0, subst (λ (k : ℕ). HasGone fits plan gives capacity 1 k 0 now) (sym none) (gone_first fits plan gives capacity now (seen_at old.workers.items) opened less))
+          let opened : IsRound plan None (seen_at old.workers.items) nothing now =
+          λ at lt. subst (λ (l : List Entry). Rattle.round_rules.specs.Rounds.Gains None (seen_at old.workers.items at) l (now at))
+          (gone.1 at lt) (r at lt) in
+          let less : (at : ℕ) → at < plan.setting.n → Holds plan at 0 0 (seen_at old.workers.items at) =
+          λ at lt. Rattle.round_rules.proofs.GrownJournals.holds_less plan at old.turns 0 (64 * rounds) 0 (seen_at old.workers.items at)
+          (omega arith) (omega arith) (h at lt) in (
+            0,
+            subst (λ (k : ℕ). HasGone fits plan gives capacity 1 k 0 now) (sym none)
+                (gone_first fits plan gives capacity now (seen_at old.workers.items) opened less),
+          )
       go (suc k) t is one gone r may' h =
           let next : suc k + 1 ≡ suc (suc k) = omega arith in
           let held : (at : ℕ) → at < plan.setting.n → Holds plan at (turns_at plan before) (64 * suc k) (seen_at old.workers.items at) =
-          λ at lt. subst (λ (n : ℕ). Holds plan at n (64 * suc k) (seen_at old.workers.items at)) g.turns (subst (λ (n : ℕ). Holds plan at old.turns (64 * n) (seen_at old.workers.items at)) is (h at lt)) in
-          let more : HasGone fits plan gives capacity (suc k + 1) (ticks + ticks_of t) (turns_at plan before) now = gone_on fits plan gives capacity before now t (seen_at old.workers.items) (suc k) ticks gone.0 gone.1 r may' held in
-          subst (λ (n : ℕ). HasGoneOn fits plan m gives capacity n (ticks + ticks_of t) now) (sym next) (turns_at plan before, subst (λ (n : ℕ). HasGone fits plan gives capacity n (ticks + ticks_of t) (turns_at plan before) now) next more)
+          λ at lt. subst (λ (n : ℕ). Holds plan at n (64 * suc k) (seen_at old.workers.items at)) g.turns
+          (subst (λ (n : ℕ). Holds plan at old.turns (64 * n) (seen_at old.workers.items at)) is (h at lt)) in
+          let more : HasGone fits plan gives capacity (suc k + 1) (ticks + ticks_of t) (turns_at plan before) now =
+          gone_on fits plan gives capacity before now t (seen_at old.workers.items) (suc k) ticks gone.0 gone.1 r may' held in
+          subst (λ (n : ℕ). HasGoneOn fits plan m gives capacity n (ticks + ticks_of t) now) (sym next)
+          (turns_at plan before, subst (λ (n : ℕ). HasGone fits plan gives capacity n (ticks + ticks_of t) (turns_at plan before) now) next more)

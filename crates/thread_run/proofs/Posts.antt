@@ -10,7 +10,8 @@ use Rattle.thread_run.specs.Workers.{posted, posted_for, posted_one}
 pub posted_past : (sends : List Sender) (e : Envelope) → length sends ≤ e.to → posted_one sends e ≡ sends
 posted_past sends e past = ap (posted_for sends e) (slice_get_past sends e.to past)
 
-pub posted_at : (sends : List Sender) (e : Envelope) (d : Sender) → e.to < length sends → posted_one sends e ≡ slice_set sends e.to (sent_more (get_or sends e.to d) e.bytes)
+pub posted_at : (sends : List Sender) (e : Envelope) (d : Sender) → e.to < length sends
+    → posted_one sends e ≡ slice_set sends e.to (sent_more (get_or sends e.to d) e.bytes)
 posted_at sends e d below = ap (posted_for sends e) (slice_get-get_or sends e.to d below)
 
 pub posted-append : (sends : List Sender) (xs ys : List Envelope) → posted sends (xs ++ ys) ≡ posted (posted sends xs) ys

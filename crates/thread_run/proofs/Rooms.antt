@@ -35,7 +35,9 @@ module _ (f : Tx → ℕ) where
 
   share_past : (c : Client) (a m : ℕ) → c.count < a → shares f (range_with_len a m) c ≡ 0
   share_past c a zero lt = refl
-  share_past c a (suc m) lt = (let past : nat_le a c.count ≡ false = grind (arith, nat_tests) in let rest = share_past c (a + 1) m (omega (arith, lt)) in rw past (omega (arith, rest)))
+  share_past c a (suc m) lt =
+      (let past : nat_le a c.count ≡ false = grind (arith, nat_tests) in let rest = share_past c (a + 1) m (omega (arith, lt)) in
+      rw past (omega (arith, rest)))
 
   share_all : (c : Client) (most : ℕ) → c.count ≤ most → total f (client_list c) ≡ shares f (range_with_len 1 most) c
   share_all c most le =
@@ -49,7 +51,8 @@ module _ (f : Tx → ℕ) where
       ∙ total-append (λ k. share f k c) (range_with_len 1 c.count) (range_with_len (1 + c.count) rest) in
       omega (arith, within, past, both)
 
-  all_shares : (most : ℕ) (cs : List Client) → All (λ (c : Client). c.count ≤ most) cs → total f (flat_map client_list cs) ≡ total (shares f (range_with_len 1 most)) cs
+  all_shares : (most : ℕ) (cs : List Client) → All (λ (c : Client). c.count ≤ most) cs
+      → total f (flat_map client_list cs) ≡ total (shares f (range_with_len 1 most)) cs
   all_shares most [] all = refl
   all_shares most (c ∷ cs) all =
       let first = share_all c most (All-head (λ (c : Client). c.count ≤ most) c cs all) in
@@ -79,8 +82,11 @@ held_later t x xs is = elim (cases_Bool (tx_eq x t)) [
 module _ (plan : Plan) (rules : KeepsRules plan) (at : ℕ) (below : at < plan.setting.n) where
   pub has_room : HasRoom plan at
   has_room = record {
-    distinct = distinct_from_counts tx_eq equal (all_submitted plan at) (λ t. subst (λ (k : ℕ). k ≤ 1) (sym (submitted_total (given t) plan at)) (once plan rules rules.apart at below t));
-    short = (let all = submitted_total (λ t. 1) plan at in let a = total_is_length (all_submitted plan at) in let b = total_is_length (txs_of (timed_for plan at)) in let most = few plan rules rules.apart at below in omega (arith, all, a, b, most));
+    distinct = distinct_from_counts tx_eq equal (all_submitted plan at)
+        (λ t. subst (λ (k : ℕ). k ≤ 1) (sym (submitted_total (given t) plan at)) (once plan rules rules.apart at below t));
+    short =
+        (let all = submitted_total (λ t. 1) plan at in let a = total_is_length (all_submitted plan at) in let b =
+        total_is_length (txs_of (timed_for plan at)) in let most = few plan rules rules.apart at below in omega (arith, all, a, b, most));
   }
 
   pub submitted_fit : total misfit (all_submitted plan at) ≡ 0
@@ -88,7 +94,8 @@ module _ (plan : Plan) (rules : KeepsRules plan) (at : ℕ) (below : at < plan.s
 
   -- each transaction of a merge fits
   pub merged_fit : (list : List Tx) → IsMerge (submitted_to plan at) list → All FitsTx list
-  merged_fit list m = held_all list (λ t is. all_held FitsTx (all_submitted plan at) (all_fit (all_submitted plan at) submitted_fit) t (merge_same (submitted_to plan at) list m t ∙ is))
+  merged_fit list m = held_all list (λ t is. all_held FitsTx (all_submitted plan at) (all_fit (all_submitted plan at) submitted_fit) t
+      (merge_same (submitted_to plan at) list m t ∙ is))
     where
       held_all : (xs : List Tx) → ((t : Tx) → holds t xs ≡ true → FitsTx t) → All FitsTx xs
       held_all [] f = All-nil FitsTx

@@ -31,9 +31,11 @@ use Rattle.thread_run.proofs.Submissions.{remain_self, serve_self}
 use Rattle.thread_run.proofs.OneRound.{floor_of_all, going_step, lacks_of}
 
 pub hold_same : {S : Type 0} (plan : Plan) (old new : Run S) → new.due ≡ old.due → new.workers.items ≡ old.workers.items → HoldAll plan new → HoldAll plan old
-hold_same plan old new due items all = λ at c is. ap (λ (d : List Tx). holds_by plan.faulty d c) (sym due) ∙ all at c (ap (λ (ws : List (Working _)). slice_get ws at) items ∙ is)
+hold_same plan old new due items all = λ at c is. ap (λ (d : List Tx). holds_by plan.faulty d c) (sym due)
+    ∙ all at c (ap (λ (ws : List (Working _)). slice_get ws at) items ∙ is)
 
-pub lacks_same : {S : Type 0} (plan : Plan) (old new : Run S) → new.due ≡ old.due → new.workers.items ≡ old.workers.items → SomeLacks plan new → SomeLacks plan old
+pub lacks_same : {S : Type 0} (plan : Plan) (old new : Run S) → new.due ≡ old.due → new.workers.items ≡ old.workers.items
+    → SomeLacks plan new → SomeLacks plan old
 lacks_same plan old new due items l = record {
   at = l.at;
   worker = l.worker;
@@ -71,7 +73,8 @@ module _ {S : Type 0} (plan : Plan) where
   sum_heard [] (w ∷ ws) z = absurd z
   sum_heard (v ∷ vs) [] z = absurd z
   sum_heard (v ∷ vs) (w ∷ ws) z =
-      (let one = ap (λ (x : Working S). x.turns) z.0.rest in let rest = sum_heard vs ws z.1 in let a = sum_by-cons turns_by v vs in let b = sum_by-cons turns_by w ws in omega (arith, one, rest, a, b))
+      (let one = ap (λ (x : Working S). x.turns) z.0.rest in let rest = sum_heard vs ws z.1 in let a = sum_by-cons turns_by v vs in
+      let b = sum_by-cons turns_by w ws in omega (arith, one, rest, a, b))
 
   pub heard_counted : (turns : ℕ) (old new : Run S) → HasHeard plan turns old new → IsCounted plan old → IsCounted plan new
   heard_counted turns old new h counted =
@@ -84,8 +87,10 @@ module _ {S : Type 0} (plan : Plan) where
 
   same_manned : (k : ℕ) (old new : Run S) → IsSame k old new → IsManned plan old → IsManned plan new
   same_manned k old new same man =
-      manned_on plan old old.workers.items old.clients.items old.drivers.items man (serve_self old.workers.items) (remain_self old.clients.items) man.ready man.of man.drivers man.parts man.given
-      new (ap (λ (r : Run S). r.world) same.0) (ap (λ (r : Run S). r.due) same.0) same.1 (ap (λ (r : Run S). r.clients.items) same.0) (ap (λ (r : Run S). r.drivers.items) same.0)
+      manned_on plan old old.workers.items old.clients.items old.drivers.items man (serve_self old.workers.items)
+      (remain_self old.clients.items) man.ready man.of man.drivers man.parts man.given
+      new (ap (λ (r : Run S). r.world) same.0) (ap (λ (r : Run S). r.due) same.0) same.1 (ap (λ (r : Run S). r.clients.items) same.0)
+      (ap (λ (r : Run S). r.drivers.items) same.0)
 
   same_counted : (k : ℕ) (old new : Run S) → IsSame k old new → k ≤ plan.ticks → IsCounted plan old → IsCounted plan new
   same_counted k old new same le counted =
@@ -117,7 +122,8 @@ module _ {S : Type 0} (plan : Plan) where
       ap (λ (r : Run S). r.workers.items) e ∙ items,
     )
 
-    pub decided_next : (next : Next) (whole : Bool) → old.turns < plan.turns → AllCompared whole old.workers.items → SomeLacks plan old → IsNext plan whole next mid new → IsDecided plan next old new
+    pub decided_next : (next : Next) (whole : Bool) → old.turns < plan.turns → AllCompared whole old.workers.items → SomeLacks plan old
+        → IsNext plan whole next mid new → IsDecided plan next old new
     decided_next Ends whole turns compared lacks n =
         let ticks : mid.ticks ≡ old.ticks = ap (λ (r : Run S). r.ticks) is in
         let over : plan.ticks ≤ mid.ticks = n.2 in
@@ -125,15 +131,22 @@ module _ {S : Type 0} (plan : Plan) where
     decided_next (Goes None) whole turns compared lacks n = (unticked n.0, turns, subst (λ b. AllCompared b old.workers.items) n.1 compared, lacks)
     decided_next (Goes (Some floor)) whole turns compared lacks n =
         let ticks : mid.ticks ≡ old.ticks = ap (λ (r : Run S). r.ticks) is in
-        let few : mid.ticks < plan.ticks = n.2 in
-        (ticked n.0, turns, omega (arith, ticks, few), subst (λ b. AllCompared b old.workers.items) n.1 compared, n.3 ∙ ap (fold (floor_by plan.faulty) 0) items, lacks)
+        let few : mid.ticks < plan.ticks = n.2 in (
+          ticked n.0,
+          turns,
+          omega (arith, ticks, few),
+          subst (λ b. AllCompared b old.workers.items) n.1 compared,
+          n.3 ∙ ap (fold (floor_by plan.faulty) 0) items,
+          lacks,
+        )
 
 -- ---- how a run continues
 
 module _ {S : Type 0} (fits : Check) (plan : Plan) (m : Meaning S) where
   module _ (gives : ℕ → Gives) (capacity : ℕ) where
     -- a round more, whose end was decided
-    same_goes : (rounds ticks k : ℕ) (old new : Run S) → IsSame k old new → IsGoing fits plan m gives capacity rounds ticks old → IsGoing fits plan m gives capacity rounds ticks new
+    same_goes : (rounds ticks k : ℕ) (old new : Run S) → IsSame k old new → IsGoing fits plan m gives capacity rounds ticks old
+        → IsGoing fits plan m gives capacity rounds ticks new
     same_goes rounds ticks k old new same g =
         let drivers = ap (λ (r : Run S). r.drivers.items) same.0 in
         let turns = ap (λ (r : Run S). r.turns) same.0 in
@@ -143,7 +156,8 @@ module _ {S : Type 0} (fits : Check) (plan : Plan) (m : Meaning S) where
           stand = subst (AllStand fits plan m gives capacity) (sym items) g.stand;
           turns = turns ∙ g.turns ∙ ap (λ (ws : List (Working S)). turns_at plan (journals_at ws)) (sym items);
           few = subst (λ (t : ℕ). t < plan.turns + 32 * plan.setting.n) (sym turns) g.few;
-          next = subst (λ (cs : List ClientWorker). (i : ℕ) (c : ClientWorker) → slice_get cs i ≡ Some c → c.fault ≡ None → c.next ≡ min c.count (64 * rounds)) (sym clients) g.next;
+          next = subst (λ (cs : List ClientWorker). (i : ℕ) (c : ClientWorker) → slice_get cs i ≡ Some c → c.fault ≡ None
+              → c.next ≡ min c.count (64 * rounds)) (sym clients) g.next;
           timely = subst (λ (t : ℕ). IsTimely plan ticks t (journals_at new.workers.items) new.drivers.items) (sym turns)
               (subst (λ (ds : List Driver). IsTimely plan ticks old.turns (journals_at new.workers.items) ds) (sym drivers)
               (subst (λ (ws : List (Working S)). IsTimely plan ticks old.turns (journals_at ws) old.drivers.items) (sym items) g.timely));
@@ -151,11 +165,13 @@ module _ {S : Type 0} (fits : Check) (plan : Plan) (m : Meaning S) where
               (g.gone (subst (λ (ds : List Driver). AllTaken ds old.clients.items) drivers (subst (AllTaken new.drivers.items) clients taken)));
         }
 
-    over_of : (rounds : ℕ) (old new : Run S) → IsGoing fits plan m gives capacity (rounds + 1) old.ticks old → IsCounted plan old → IsDecided plan Ends old new → IsOver fits plan m gives capacity new
+    over_of : (rounds : ℕ) (old new : Run S) → IsGoing fits plan m gives capacity (rounds + 1) old.ticks old → IsCounted plan old
+        → IsDecided plan Ends old new → IsOver fits plan m gives capacity new
     over_of rounds old new g counted d = record {
       rounds = rounds;
       going = subst (λ (k : ℕ). IsGoing fits plan m gives capacity (rounds + 1) k new) (sym ticks) (same_goes (rounds + 1) old.ticks old.ticks old new d.0 g);
-      linked = subst (λ (ws : List (Working S)). AreLinked plan (journals_at ws)) (sym d.0.1) (links_are fits plan m gives capacity d.1.0 old.workers.items g.stand d.1.1);
+      linked = subst (λ (ws : List (Working S)). AreLinked plan (journals_at ws)) (sym d.0.1)
+          (links_are fits plan m gives capacity d.1.0 old.workers.items g.stand d.1.1);
       cause = by d.2;
     }
       where
@@ -171,9 +187,13 @@ module _ {S : Type 0} (fits : Check) (plan : Plan) (m : Meaning S) where
         by (inr (inl over)) = inr (inl (omega (arith, over, turns)))
         by (inr (inr c)) =
             let few = counted.few_ticks in
-            let all = c.0 in inr (inr (omega (arith, few, all, ticks), subst (λ (ws : List (Working S)). IsWhole plan (journals_at ws)) (sym d.0.1) (whole_is fits plan m gives capacity old.workers.items g.stand c.1)))
+            let all = c.0 in inr (inr (
+              omega (arith, few, all, ticks),
+              subst (λ (ws : List (Working S)). IsWhole plan (journals_at ws)) (sym d.0.1) (whole_is fits plan m gives capacity old.workers.items g.stand c.1),
+            ))
 
-    goes_of : (rounds : ℕ) (old new : Run S) (tick : Option ℕ) → IsGoing fits plan m gives capacity (rounds + 1) old.ticks old → IsDecided plan (Goes tick) old new → MayGo fits plan m gives capacity tick new
+    goes_of : (rounds : ℕ) (old new : Run S) (tick : Option ℕ) → IsGoing fits plan m gives capacity (rounds + 1) old.ticks old
+        → IsDecided plan (Goes tick) old new → MayGo fits plan m gives capacity tick new
     goes_of rounds old new None g d = record {
       rounds = rounds + 1;
       ticks = old.ticks;
@@ -197,21 +217,26 @@ module _ {S : Type 0} (fits : Check) (plan : Plan) (m : Meaning S) where
     }
 
   -- what was submitted, what the workers were informed of, a round, and what was then decided
-  pub follows_on : (first old mid after new : Run S) (tick : Option ℕ) (next : Next) → Follows fits plan m first (Goes tick) old → HasHeard plan old.turns old mid → IsStep fits plan m tick mid after → IsManned plan after → IsCounted plan after
+  pub follows_on : (first old mid after new : Run S) (tick : Option ℕ) (next : Next) → Follows fits plan m first (Goes tick) old
+      → HasHeard plan old.turns old mid → IsStep fits plan m tick mid after → IsManned plan after → IsCounted plan after
       → IsDecided plan next after new → Follows fits plan m first next new
   follows_on first old mid after new tick next f h s manned counted d = by next d
     where
-      stepped : (gives : ℕ → Gives) (capacity : ℕ) → Begins fits plan m gives capacity first → (rounds : ℕ) × IsGoing fits plan m gives capacity (rounds + 1) after.ticks after
+      stepped : (gives : ℕ → Gives) (capacity : ℕ) → Begins fits plan m gives capacity first
+          → (rounds : ℕ) × IsGoing fits plan m gives capacity (rounds + 1) after.ticks after
       stepped gives capacity b =
           let go = f gives capacity b in
           let heard = going_heard fits plan m gives capacity go.rounds go.ticks old.turns old mid (omega arith) go.going h in
           let same : mid.turns ≡ old.turns = ap (λ (r : Run S). r.turns) h.same in
-          let ticks : go.ticks + ticks_of tick ≡ after.ticks = sym go.counted ∙ sym (ap (λ (r : Run S). r.ticks) h.same) ∙ sym (ap (λ (r : Run S). r.ticks) s.same) in (
+          let ticks : go.ticks + ticks_of tick ≡ after.ticks = sym go.counted ∙ sym (ap (λ (r : Run S). r.ticks) h.same)
+          ∙ sym (ap (λ (r : Run S). r.ticks) s.same) in (
             go.rounds,
             subst (λ (k : ℕ). IsGoing fits plan m gives capacity (go.rounds + 1) k after) ticks
                 (going_step fits plan m gives capacity go.rounds go.ticks tick mid after heard s manned counted
                 (subst (λ n. MayTick fits plan gives capacity n tick) (sym (journals_heard old.workers.items mid.workers.items h.workers)) go.may) go.first
-                (λ taken at lt. subst (λ (t : ℕ). Rattle.round_rules.specs.Moments.Holds plan at t (64 * go.rounds) (Rattle.thread_run.specs.Standing.seen_at mid.workers.items at)) (sym same) (holds_heard fits plan m gives capacity go.rounds go.ticks old.turns old mid (omega arith) go.going h taken at lt))),
+                (λ taken at lt. subst (λ (t : ℕ). Rattle.round_rules.specs.Moments.Holds plan at t (64 * go.rounds)
+                (Rattle.thread_run.specs.Standing.seen_at mid.workers.items at))
+                (sym same) (holds_heard fits plan m gives capacity go.rounds go.ticks old.turns old mid (omega arith) go.going h taken at lt))),
           )
 
       by : (next : Next) → IsDecided plan next after new → Follows fits plan m first next new

@@ -58,14 +58,18 @@ begins (suc k) [] = ([], refl)
 begins (suc k) (x ∷ xs) = (let p = begins k xs in (p.0, ap (λ (l : List Tx). x ∷ l) p.1))
 
 -- the arrival lists of a record are those of logs
-pub arrival_lists : {S : Type 0} (plan : Plan) (new : Run S) (run : RunRecord) → Shows plan new run → KeepsRules plan → (at : ℕ) → at < plan.setting.n → IsArrivalList (get_or run.arrivals at [])
+pub arrival_lists : {S : Type 0} (plan : Plan) (new : Run S) (run : RunRecord) → Shows plan new run → KeepsRules plan → (at : ℕ)
+    → at < plan.setting.n → IsArrivalList (get_or run.arrivals at [])
 arrival_lists plan new run shows rules at lt =
-    (let list = shows.lists at lt in record { distinct = list.distinct; each = merged_fit plan rules at lt (get_or run.arrivals at []) (shows.arrivals at lt); few = list.within })
+    (let list = shows.lists at lt in
+    record { distinct = list.distinct; each = merged_fit plan rules at lt (get_or run.arrivals at []) (shows.arrivals at lt); few = list.within })
 
 -- the replicas' workers stand at their places also once the clients and the driver went on alone
-pub stand_on : {S : Type 0} (fits : Check) (plan : Plan) (m : Meaning S) (gives : ℕ → Gives) (capacity : ℕ) (old new : Run S) → IsManned plan old → WentOn old new
+pub stand_on : {S : Type 0} (fits : Check) (plan : Plan) (m : Meaning S) (gives : ℕ → Gives) (capacity : ℕ) (old new : Run S)
+    → IsManned plan old → WentOn old new
     → AllStand fits plan m gives capacity old.workers.items → AllStand fits plan m gives capacity new.workers.items
-stand_on fits plan m gives capacity old new man on stand = stands_heard fits plan m gives capacity old.world.logs.items old.world.boxes.items old.workers.items new.workers.items man.ready on.workers stand
+stand_on fits plan m gives capacity old new man on stand = stands_heard fits plan m gives capacity old.world.logs.items
+    old.world.boxes.items old.workers.items new.workers.items man.ready on.workers stand
 
 -- what one of n senders put into a mailbox is delivered from one of them
 from_letters : (n : ℕ) (events : List Event) → All (IsOf n) (letters_in events) → All (IsFrom n) events
@@ -110,7 +114,8 @@ module _ {S : Type 0} (fits : Check) (plan : Plan) (m : Meaning S) (gives : ℕ 
   shown_before : AreShown fits plan gives capacity run before
   shown_before = subst (λ (x : Moment). AreShown fits plan gives capacity run x) (fun_ext same_new) shown
 
-  gone_on : (rounds ticks : ℕ) → HasGoneOn fits plan m gives capacity (rounds + 1) ticks before → (base : ℕ) × HasGone fits plan gives capacity (rounds + 1) ticks base before
+  gone_on : (rounds ticks : ℕ) → HasGoneOn fits plan m gives capacity (rounds + 1) ticks before
+      → (base : ℕ) × HasGone fits plan gives capacity (rounds + 1) ticks base before
   gone_on rounds ticks g =
       let next : rounds + 1 ≡ suc rounds = omega arith in
       let at : HasGoneOn fits plan m gives capacity (suc rounds) ticks before = subst (λ (r : ℕ). HasGoneOn fits plan m gives capacity r ticks before) next g in
@@ -130,7 +135,8 @@ module _ {S : Type 0} (fits : Check) (plan : Plan) (m : Meaning S) (gives : ℕ 
   turned_all at lt =
       let (w, is, s) = over.going.stand at lt in
       let journal : w.seat.journal ≡ before at = ap (λ (o : Option (Working S)). option_map_or journal_of o []) (sym is) in
-      subst (λ (j : List Entry). j ≡ (after_events fits plan (gives at) capacity at (events_of j)).replica.journal) journal (turned fits plan m (gives at) capacity at w s)
+      subst (λ (j : List Entry). j ≡ (after_events fits plan (gives at) capacity at (events_of j)).replica.journal) journal
+      (turned fits plan m (gives at) capacity at w s)
 
   -- what a node was given is a prefix of the log
   reported_all : (at : ℕ) → at < plan.setting.n → IsPrefix (known_in (events_of (before at))) (get_or run.arrivals at [])
@@ -138,11 +144,13 @@ module _ {S : Type 0} (fits : Check) (plan : Plan) (m : Meaning S) (gives : ℕ 
       let (w, is, s) = over.going.stand at lt in
       let (v, there, reported) = zip_there ReportedWorker old.workers.items new.workers.items at w on.workers is in
       let journal : w.seat.journal ≡ before at = ap (λ (o : Option (Working S)). option_map_or journal_of o []) (sym is) in
-      let known : knows w ≡ known_in (events_of (before at)) = known_is fits plan m (gives at) capacity at w s ∙ ap (λ (j : List Entry). known_in (events_of j)) journal in
+      let known : knows w ≡ known_in (events_of (before at)) =
+      known_is fits plan m (gives at) capacity at w s ∙ ap (λ (j : List Entry). known_in (events_of j)) journal in
       let seen : seen_at new.workers.items at ≡ v.log.seen = ap (λ (o : Option (Working S)). option_map_or seen_by o []) there in
       let log : IsPrefix v.log.seen (get_or run.arrivals at []) = subst (λ (l : List Tx). IsPrefix l (get_or run.arrivals at [])) seen (shows.reported at lt) in
       subst (λ (l : List Tx). IsPrefix l (get_or run.arrivals at [])) known
-      (prefix_trans (knows w) w.log.seen (get_or run.arrivals at []) (begins w.known w.log.seen) (prefix_trans w.log.seen v.log.seen (get_or run.arrivals at []) reported.looked.later log))
+      (prefix_trans (knows w) w.log.seen (get_or run.arrivals at []) (begins w.known w.log.seen)
+      (prefix_trans w.log.seen v.log.seen (get_or run.arrivals at []) reported.looked.later log))
 
   -- ---- the end
 
@@ -154,15 +162,18 @@ module _ {S : Type 0} (fits : Check) (plan : Plan) (m : Meaning S) (gives : ℕ 
       count : length (map (λ at. txs_of (timed_for plan at)) (everyone plan)) ≡ length run.arrivals
       count = length-map (everyone plan) (λ at. txs_of (timed_for plan at)) ∙ length-range_with_len 0 plan.setting.n ∙ sym shows.shape.arrivals
 
-      each : (i : ℕ) (d e : List Tx) → i < length (map (λ at. txs_of (timed_for plan at)) (everyone plan)) → SameTxs (get_or (map (λ at. txs_of (timed_for plan at)) (everyone plan)) i d) (get_or run.arrivals i e)
+      each : (i : ℕ) (d e : List Tx) → i < length (map (λ at. txs_of (timed_for plan at)) (everyone plan))
+          → SameTxs (get_or (map (λ at. txs_of (timed_for plan at)) (everyone plan)) i d) (get_or run.arrivals i e)
       each i d e lt =
           let arrivals = shows.shape.arrivals in
           let lists = count in
           let below : i < plan.setting.n = omega (arith, lt, lists, arrivals) in
-          let first : get_or (map (λ at. txs_of (timed_for plan at)) (everyone plan)) i d ≡ txs_of (timed_for plan i) = get_or-map-range_with_len (λ at. txs_of (timed_for plan at)) 0 plan.setting.n i i d below (omega arith) in
+          let first : get_or (map (λ at. txs_of (timed_for plan at)) (everyone plan)) i d ≡ txs_of (timed_for plan i) =
+          get_or-map-range_with_len (λ at. txs_of (timed_for plan at)) 0 plan.setting.n i i d below (omega arith) in
           let same : get_or run.arrivals i [] ≡ get_or run.arrivals i e = get_or_default run.arrivals i [] e (omega (arith, below, arrivals)) in
           subst (λ (l : List Tx). SameTxs l (get_or run.arrivals i e)) (sym first)
-          (subst (SameTxs (txs_of (timed_for plan i))) same (λ t. feed_same plan i t ∙ merge_same (submitted_to plan i) (get_or run.arrivals i []) (shows.arrivals i below) t))
+          (subst (SameTxs (txs_of (timed_for plan i))) same
+          (λ t. feed_same plan i t ∙ merge_same (submitted_to plan i) (get_or run.arrivals i []) (shows.arrivals i below) t))
 
   done : HoldAll plan old → IsDone plan run
   unfolding holds_due
@@ -174,15 +185,20 @@ module _ {S : Type 0} (fits : Check) (plan : Plan) (m : Meaning S) (gives : ℕ 
       let held : holds_due old.due w.seat.node.state.known ≡ true = rw not_faulty at asked in
       let journal : w.seat.journal ≡ before at = ap (λ (o : Option (Working S)). option_map_or journal_of o []) (sym is) in
       let node : replica_of m w.seat ≡ (after_events fits plan (gives at) capacity at (events_of (before at))).replica =
-      replica_is fits plan m (gives at) capacity at w s ∙ ap (λ (j : List Entry). (after_events fits plan (gives at) capacity at (events_of j)).replica) journal in
+      replica_is fits plan m (gives at) capacity at w s
+      ∙ ap (λ (j : List Entry). (after_events fits plan (gives at) capacity at (events_of j)).replica) journal in
       let batches : get_or run.batches at [] ≡ batches_of (replica_of m w.seat) =
-      get_or_from_slice_get run.batches at (batches_of (after_events fits plan (gives at) capacity at (events_of (before at))).replica) [] (shown_before.batches at lt) ∙ ap batches_of (sym node) in
-      let due : hold_all (batches_of (replica_of m w.seat)) (due_in plan) ≡ true = ap (λ (l : List Tx). hold_all (batches_of (replica_of m w.seat)) l) (sym over.going.manned.due) ∙ held in
+      get_or_from_slice_get run.batches at (batches_of (after_events fits plan (gives at) capacity at (events_of (before at))).replica) []
+      (shown_before.batches at lt)
+      ∙ ap batches_of (sym node) in
+      let due : hold_all (batches_of (replica_of m w.seat)) (due_in plan) ≡ true =
+      ap (λ (l : List Tx). hold_all (batches_of (replica_of m w.seat)) l) (sym over.going.manned.due) ∙ held in
       ap (λ (b : List (List Tx)). hold_all b (due_of plan.setting.n plan.faulty run.arrivals)) batches
       ∙ all_pass_same (is_finalised (batches_of (replica_of m w.seat))) (due_in plan) (due_of plan.setting.n plan.faulty run.arrivals) due_is due
 
   -- what lacks something that was due at the beginning lacks something that is due by the record's lists
-  still_lacks : (k : ℕ) → LacksOne fits plan gives capacity (due_in plan) (at_tick k before) → LacksOne fits plan gives capacity (due_of plan.setting.n plan.faulty run.arrivals) (at_tick k before)
+  still_lacks : (k : ℕ) → LacksOne fits plan gives capacity (due_in plan) (at_tick k before)
+      → LacksOne fits plan gives capacity (due_of plan.setting.n plan.faulty run.arrivals) (at_tick k before)
   still_lacks k l = record { replica = l.replica; below = l.below; honest = l.honest; lacks = lacks }
     where
       batches : List (List Tx)
@@ -191,7 +207,8 @@ module _ {S : Type 0} (fits : Check) (plan : Plan) (m : Meaning S) (gives : ℕ 
       lacks : hold_all batches (due_of plan.setting.n plan.faulty run.arrivals) ≡ false
       lacks = elim (cases_Bool (hold_all batches (due_of plan.setting.n plan.faulty run.arrivals))) [
         | inl so ↦ (
-            let all : hold_all batches (due_in plan) ≡ true = all_pass_same (is_finalised batches) (due_of plan.setting.n plan.faulty run.arrivals) (due_in plan) (λ t. sym (due_is t)) so in
+            let all : hold_all batches (due_in plan) ≡ true =
+            all_pass_same (is_finalised batches) (due_of plan.setting.n plan.faulty run.arrivals) (due_in plan) (λ t. sym (due_is t)) so in
             let lacking = l.lacks in
             absurd (cc (all, lacking)))
         | inr not_so ↦ not_so
@@ -222,9 +239,11 @@ module _ {S : Type 0} (fits : Check) (plan : Plan) (m : Meaning S) (gives : ℕ 
       let (e, there) = found_at new.drivers.items at (omega (arith, lt, count, logs)) in
       let list : List Tx = get_or run.arrivals at [] in
       let known : IsPrefix (known_in (events_of (before_tick k (before at)))) list =
-      prefix_trans (known_in (events_of (before_tick k (before at)))) (known_in (events_of (before at))) list (known_prefix k (before at)) (reported_all at lt) in
+      prefix_trans (known_in (events_of (before_tick k (before at)))) (known_in (events_of (before at))) list
+      (known_prefix k (before at)) (reported_all at lt) in
       known_none_early plan rules k at before list e lt known ((shows.lists at lt).distinct) (shows.owned at e lt there)
-      (early_after plan old.ticks old.turns before old.workers.items old.drivers.items new.drivers.items (known_within fits plan m gives capacity old.workers.items over.going.stand) on.after over.going.timely k at e (omega (arith, le, is)) lt there)
+      (early_after plan old.ticks old.turns before old.workers.items old.drivers.items new.drivers.items
+      (known_within fits plan m gives capacity old.workers.items over.going.stand) on.after over.going.timely k at e (omega (arith, le, is)) lt there)
 
   fed : AreFed plan run before
   fed = record {
@@ -238,15 +257,22 @@ module _ {S : Type 0} (fits : Check) (plan : Plan) (m : Meaning S) (gives : ℕ 
   known_senders : HasKnownSenders plan before
   known_senders at lt =
       let (w, is, s) = over.going.stand at lt in
-      let belongs : Belongs old.world.logs.items old.world.boxes.items w = (all_at (Ready old.world.logs.items old.world.boxes.items) old.workers.items at w over.going.manned.ready is).0 in
+      let belongs : Belongs old.world.logs.items old.world.boxes.items w =
+      (all_at (Ready old.world.logs.items old.world.boxes.items) old.workers.items at w over.going.manned.ready is).0 in
       let journal : w.seat.journal ≡ before at = ap (λ (o : Option (Working S)). option_map_or journal_of o []) (sym is) in
-      let taken : w.take.taken ≡ letters_in (events_of w.seat.journal) = ap (λ (t : Receiver). t.taken) s.did.take ∙ ap (λ (l : List Letter). l ++ letters_in (events_of w.seat.journal)) s.new.taken in
-      let of : All (IsOf (length old.world.boxes.items)) (letters_in (events_of w.seat.journal)) = subst (All (IsOf (length old.world.boxes.items))) taken belongs.senders in
+      let taken : w.take.taken ≡ letters_in (events_of w.seat.journal) =
+      ap (λ (t : Receiver). t.taken) s.did.take ∙ ap (λ (l : List Letter). l ++ letters_in (events_of w.seat.journal)) s.new.taken in
+      let of : All (IsOf (length old.world.boxes.items)) (letters_in (events_of w.seat.journal)) =
+      subst (All (IsOf (length old.world.boxes.items))) taken belongs.senders in
       subst (λ (j : List Entry). All (IsFrom plan.setting.n) (events_of j)) journal
-      (from_letters plan.setting.n (events_of w.seat.journal) (subst (λ (k : ℕ). All (IsOf k) (letters_in (events_of w.seat.journal))) over.going.manned.boxes of))
+      (from_letters plan.setting.n (events_of w.seat.journal)
+      (subst (λ (k : ℕ). All (IsOf k) (letters_in (events_of w.seat.journal))) over.going.manned.boxes of))
 
-  ran_before : (j : Moment) → j ≡ before → AreTurned fits plan gives capacity j × AreLinked plan j × AreFed plan run j × HasEnded plan run j × AreShown fits plan gives capacity run j × HasKnownSenders plan j × HadCauses fits plan gives capacity run j
-  ran_before j is = subst (λ (x : Moment). AreTurned fits plan gives capacity x × AreLinked plan x × AreFed plan run x × HasEnded plan run x × AreShown fits plan gives capacity run x × HasKnownSenders plan x × HadCauses fits plan gives capacity run x) (sym is) (turned_all, over.linked, fed, ended, shown_before, known_senders, causes)
+  ran_before : (j : Moment) → j ≡ before → AreTurned fits plan gives capacity j × AreLinked plan j × AreFed plan run j × HasEnded plan run j
+      × AreShown fits plan gives capacity run j × HasKnownSenders plan j × HadCauses fits plan gives capacity run j
+  ran_before j is = subst (λ (x : Moment). AreTurned fits plan gives capacity x × AreLinked plan x × AreFed plan run x
+      × HasEnded plan run x × AreShown fits plan gives capacity run x × HasKnownSenders plan x × HadCauses fits plan gives capacity run x)
+      (sym is) (turned_all, over.linked, fed, ended, shown_before, known_senders, causes)
 
   pub ran : Ran fits plan gives capacity run
   ran =
@@ -255,7 +281,8 @@ module _ {S : Type 0} (fits : Check) (plan : Plan) (m : Meaning S) (gives : ℕ 
         turned = all.0;
         arrivals = shows.arrivals;
         links = all.1;
-        ticks = subst (λ (x : Moment). AreTicked fits plan gives capacity run x) (sym same_run) (laws.ticks fits plan gives capacity run (over.rounds + 1) gone.0 before gone.1 turns_are);
+        ticks = subst (λ (x : Moment). AreTicked fits plan gives capacity run x) (sym same_run)
+            (laws.ticks fits plan gives capacity run (over.rounds + 1) gone.0 before gone.1 turns_are);
         fed = all.2;
         ended = all.3;
         shown = all.4;

@@ -28,7 +28,8 @@ use Rattle.thread_run.proofs.WorkerInvariant.{replica_is}
 module _ {S : Type 0} (plan : Plan) (run : Run S) (stopped : HasStopped plan run) (m : Meaning S)
     (seats : List (Seated S)) (are : seats ≡ map (λ w. w.seat) run.workers.items) where
   -- what is shown of each seat is shown of each replica's worker
-  shown_at : {X : Type 0} (f : Seated S → X) (at : ℕ) (w : Working S) → at < plan.setting.n → slice_get run.workers.items at ≡ Some w → slice_get (map f seats) at ≡ Some (f w.seat)
+  shown_at : {X : Type 0} (f : Seated S → X) (at : ℕ) (w : Working S) → at < plan.setting.n → slice_get run.workers.items at ≡ Some w
+      → slice_get (map f seats) at ≡ Some (f w.seat)
   shown_at f at w lt is =
       ap (λ (l : List (Seated S)). slice_get (map f l) at) are
       ∙ slice_get-map f (map (λ (v : Working S). v.seat) run.workers.items) at
@@ -38,18 +39,32 @@ module _ {S : Type 0} (plan : Plan) (run : Run S) (stopped : HasStopped plan run
   shown_count f =
       length-map seats f ∙ ap length are ∙ length-map run.workers.items (λ (v : Working S). v.seat) ∙ stopped.manned.workers
 
-  the_journal : (at : ℕ) → at < plan.setting.n → option_map_or (λ (j : Journal). j.entries) (slice_get (map (λ seat. shown_journal (replica_of m seat)) seats) at) [] ≡ journals_at run.workers.items at
+  the_journal : (at : ℕ) → at < plan.setting.n
+      → option_map_or (λ (j : Journal). j.entries) (slice_get (map (λ seat. shown_journal (replica_of m seat)) seats) at) []
+      ≡ journals_at run.workers.items at
   the_journal at lt =
       let (w, is, fresh, kept) = stopped.manned.replicas at lt in
       ap (λ (o : _). option_map_or (λ (j : Journal). j.entries) o []) (shown_at (λ seat. shown_journal (replica_of m seat)) at w lt is)
       ∙ ap (λ (o : _). option_map_or journal_of o []) (sym is)
 
   pub shows : (lists : List (List Tx)) (journals : List Journal) (heads : List Head) (batches : List (List (List Tx)))
-      → (laws : MergeLaws) (room : (at : ℕ) → at < plan.setting.n → HasRoom plan at) (had : All (λ d. HadMemory d.fault) run.drivers.items) (clients_had : All (λ c. HadMemory c.fault) run.clients.items)
+      → (laws : MergeLaws) (room : (at : ℕ) → at < plan.setting.n → HasRoom plan at) (had : All (λ d. HadMemory d.fault) run.drivers.items)
+      (clients_had : All (λ c. HadMemory c.fault) run.clients.items)
       (count : length lists ≡ length run.world.logs.items)
       → AreFinished run.drivers.items (map (λ (w : Working S). w.log) run.workers.items) (rows_of run.clients.items) lists
-      → journals ≡ map (λ seat. shown_journal (replica_of m seat)) seats → heads ≡ map (λ seat. head_of (replica_of m seat)) seats → batches ≡ map (λ seat. batches_of (replica_of m seat)) seats
-      → Shows plan run (record { setting = plan.setting; faulty = plan.faulty; arrivals = lists; journals = journals; heads = heads; batches = batches; turns = run.turns; ticks = run.ticks })
+      → journals ≡ map (λ seat. shown_journal (replica_of m seat)) seats → heads ≡ map (λ seat. head_of (replica_of m seat)) seats
+      → batches ≡ map (λ seat. batches_of (replica_of m seat)) seats
+      → Shows plan run
+      (record {
+        setting = plan.setting;
+        faulty = plan.faulty;
+        arrivals = lists;
+        journals = journals;
+        heads = heads;
+        batches = batches;
+        turns = run.turns;
+        ticks = run.ticks;
+      })
   shows lists journals heads batches laws room had clients_had count finished j h b = record {
     taken = taken plan run stopped laws room had clients_had lists count finished;
     shape = record {
@@ -71,14 +86,18 @@ module _ {S : Type 0} (plan : Plan) (run : Run S) (stopped : HasStopped plan run
 
   -- heads and batches are those of the nodes after the journals
   pub shown : (fits : Check) (gives : ℕ → Gives) (capacity : ℕ) (run' : RunRecord) → AllStand fits plan m gives capacity run.workers.items
-      → run'.heads ≡ map (λ seat. head_of (replica_of m seat)) seats → run'.batches ≡ map (λ seat. batches_of (replica_of m seat)) seats → AreShown fits plan gives capacity run' (journals_at run.workers.items)
+      → run'.heads ≡ map (λ seat. head_of (replica_of m seat)) seats → run'.batches ≡ map (λ seat. batches_of (replica_of m seat)) seats
+      → AreShown fits plan gives capacity run' (journals_at run.workers.items)
   shown fits gives capacity run' stand h b = record {
-    heads = λ at lt. (let (w, is, s) = stand at lt in ap (λ (l : List Head). slice_get l at) h ∙ shown_at (λ seat. head_of (replica_of m seat)) at w lt is ∙ ap (λ (r : Shape). Some (head_of r)) (node_is at w is s));
-    batches = λ at lt. (let (w, is, s) = stand at lt in ap (λ (l : List (List (List Tx))). slice_get l at) b ∙ shown_at (λ seat. batches_of (replica_of m seat)) at w lt is ∙ ap (λ (r : Shape). Some (batches_of r)) (node_is at w is s));
+    heads = λ at lt. (let (w, is, s) = stand at lt in ap (λ (l : List Head). slice_get l at) h
+        ∙ shown_at (λ seat. head_of (replica_of m seat)) at w lt is ∙ ap (λ (r : Shape). Some (head_of r)) (node_is at w is s));
+    batches = λ at lt. (let (w, is, s) = stand at lt in ap (λ (l : List (List (List Tx))). slice_get l at) b
+        ∙ shown_at (λ seat. batches_of (replica_of m seat)) at w lt is ∙ ap (λ (r : Shape). Some (batches_of r)) (node_is at w is s));
   }
     where
       node_is : (at : ℕ) (w : Working S) → slice_get run.workers.items at ≡ Some w → Stands fits plan m (gives at) capacity at w
           → replica_of m w.seat ≡ (after_events fits plan (gives at) capacity at (events_of (journals_at run.workers.items at))).replica
       node_is at w is s =
           let journal : w.seat.journal ≡ journals_at run.workers.items at = ap (λ (o : _). option_map_or journal_of o []) (sym is) in
-          replica_is fits plan m (gives at) capacity at w s ∙ ap (λ (j : List Entry). (after_events fits plan (gives at) capacity at (events_of j)).replica) journal
+          replica_is fits plan m (gives at) capacity at w s
+          ∙ ap (λ (j : List Entry). (after_events fits plan (gives at) capacity at (events_of j)).replica) journal

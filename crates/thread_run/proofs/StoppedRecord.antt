@@ -33,7 +33,8 @@ use Rattle.thread_run.proofs.Zips.{zip_from, zip_there}
 
 -- ---- lists, place by place
 
-zip_get : {A B : Type 0} (R : A → B → Type 0) (xs : List A) (ys : List B) (k : ℕ) (x : A) (y : B) → AllZip R xs ys → slice_get xs k ≡ Some x → slice_get ys k ≡ Some y → R x y
+zip_get : {A B : Type 0} (R : A → B → Type 0) (xs : List A) (ys : List B) (k : ℕ) (x : A) (y : B) → AllZip R xs ys → slice_get xs k ≡ Some x
+    → slice_get ys k ≡ Some y → R x y
 zip_get R [] ys k x y z a b = absurd (cc)
 zip_get R (v ∷ xs) [] k x y z a b = absurd z
 zip_get R (v ∷ xs) (w ∷ ys) zero x y z a b = subst (λ (u : _). R u y) (same_Some v x a) (subst (R v) (same_Some w y b) z.0)
@@ -71,7 +72,8 @@ module _ {S : Type 0} (plan : Plan) (run : Run S) (stopped : HasStopped plan run
   own_at k w is = slice_get-map (λ (v : Working S). v.log) workers k ∙ ap (option_map (λ (v : Working S). v.log)) is
 
   -- all passes of the log at a place
-  passes_are : (k : ℕ) (l : Log) (d : Driver) (o : Known Tx) → slice_get logs k ≡ Some l → slice_get drivers k ≡ Some d → slice_get (map (λ (v : Working S). v.log) workers) k ≡ Some o
+  passes_are : (k : ℕ) (l : Log) (d : Driver) (o : Known Tx) → slice_get logs k ≡ Some l → slice_get drivers k ≡ Some d
+      → slice_get (map (λ (v : Working S). v.log) workers) k ≡ Some o
       → AreAllPasses l (d.pass ∷ o ∷ column k (rows_of clients))
   passes_are k l d o il id io =
       let below : k < n = (let len = log_count in let lt = slice_get_within logs k l il in omega (arith, len, lt)) in
@@ -83,37 +85,45 @@ module _ {S : Type 0} (plan : Plan) (run : Run S) (stopped : HasStopped plan run
       let (x, there, own) = belongs.log in
       let here : x ≡ l = same_Some x l (sym there ∙ ap (slice_get logs) place ∙ il) in
       let column_is = column_of logs k l il clients manned.of in
-      let parts : l.parts ≡ d.pass.parts + 1 + length plan.clients = zip_get (λ (log : Log) (e : Driver). log.parts ≡ e.pass.parts + 1 + length plan.clients) logs drivers k l d manned.parts il id in
+      let parts : l.parts ≡ d.pass.parts + 1 + length plan.clients =
+      zip_get (λ (log : Log) (e : Driver). log.parts ≡ e.pass.parts + 1 + length plan.clients) logs drivers k l d manned.parts il id in
       let first = sum_by-cons (λ (p : Known Tx). p.parts) d.pass (o ∷ column k (rows_of clients)) in
       let second = sum_by-cons (λ (p : Known Tx). p.parts) o (column k (rows_of clients)) in
       let one : o.parts ≡ 1 = ap (λ (p : Known Tx). p.parts) (sym same) ∙ fresh.0 in
       let rest = column_is.1 in
       let count = client_count in
       record {
-        of = All-cons (IsPassOf l) d.pass (o ∷ column k (rows_of clients)) of.0 (All-cons (IsPassOf l) o (column k (rows_of clients)) (subst (IsPassOf l) same (subst (λ (y : Log). IsPassOf y w.log) here own)) column_is.0);
+        of = All-cons (IsPassOf l) d.pass (o ∷ column k (rows_of clients)) of.0
+            (All-cons (IsPassOf l) o (column k (rows_of clients)) (subst (IsPassOf l) same (subst (λ (y : Log). IsPassOf y w.log) here own)) column_is.0);
         parts = omega (arith, parts, first, second, one, rest, count);
       }
 
   pub can : CanFinish logs drivers (map (λ (w : Working S). w.log) workers) (rows_of clients)
   can =
-      let own_count : length (map (λ (w : Working S). w.log) workers) ≡ length logs = length-map workers (λ (w : Working S). w.log) ∙ manned.workers ∙ sym log_count in
+      let own_count : length (map (λ (w : Working S). w.log) workers) ≡ length logs =
+      length-map workers (λ (w : Working S). w.log) ∙ manned.workers ∙ sym log_count in
       can_finish logs drivers (map (λ (w : Working S). w.log) workers) (rows_of clients) driver_count own_count (rows clients manned.of) passes_are
     where
       rows : (cs : List ClientWorker) → All (OfClient logs) cs → All (λ row. length row ≡ length logs) (rows_of cs)
       rows [] all = All-nil (λ row. length row ≡ length logs)
       rows (c ∷ cs) all =
-          All-cons (λ row. length row ≡ length logs) c.passes.items (rows_of cs) (sym (zip_length IsPassOf logs c.passes.items (All-head (OfClient logs) c cs all).passes)) (rows cs (All-tail (OfClient logs) c cs all))
+          All-cons (λ row. length row ≡ length logs) c.passes.items (rows_of cs)
+          (sym (zip_length IsPassOf logs c.passes.items (All-head (OfClient logs) c cs all).passes))
+          (rows cs (All-tail (OfClient logs) c cs all))
 
   -- ---- what the lists of the logs are
 
-  module _ (laws : MergeLaws) (room : (at : ℕ) → at < n → HasRoom plan at) (had : All (λ d. HadMemory d.fault) drivers) (clients_had : All (λ c. HadMemory c.fault) clients)
-      (lists : List (List Tx)) (count : length lists ≡ length logs) (finished : AreFinished drivers (map (λ (w : Working S). w.log) workers) (rows_of clients) lists) where
+  module _ (laws : MergeLaws) (room : (at : ℕ) → at < n → HasRoom plan at) (had : All (λ d. HadMemory d.fault) drivers)
+      (clients_had : All (λ c. HadMemory c.fault) clients)
+      (lists : List (List Tx)) (count : length lists ≡ length logs)
+      (finished : AreFinished drivers (map (λ (w : Working S). w.log) workers) (rows_of clients) lists) where
     all_clients : AllZip (HasClient logs) plan.clients clients
     all_clients = zip_from (HasClient logs) plan.clients clients (sym client_count) each
       where
         each : (i : ℕ) (p : Sender) (e : ClientWorker) → i < length plan.clients → HasClient logs (get_or plan.clients i p) (get_or clients i e)
         each i p e lt =
-            let (c, found, is_of) = zip_there IsClientOf plan.clients clients i (get_or plan.clients i p) manned.clients (slice_get-get_or plan.clients i p lt) in
+            let (c, found, is_of) = zip_there IsClientOf plan.clients clients i (get_or plan.clients i p) manned.clients
+            (slice_get-get_or plan.clients i p lt) in
             let same : get_or clients i e ≡ c = get_or_from_slice_get clients i c e found in
             subst (HasClient logs (get_or plan.clients i p)) (sym same) (record {
               id = is_of.0;
@@ -150,7 +160,8 @@ module _ {S : Type 0} (plan : Plan) (run : Run S) (stopped : HasStopped plan run
             had = all_at (λ (x : Driver). HadMemory x.fault) drivers k d had id;
             bare = fresh.1;
           };
-          listed = finished_at drivers (map (λ (v : Working S). v.log) workers) (rows_of clients) lists finished k d w.log (get_or lists k []) id (own_at k w at) (slice_get-get_or lists k [] in_lists);
+          listed = finished_at drivers (map (λ (v : Working S). v.log) workers) (rows_of clients) lists finished k d w.log
+              (get_or lists k []) id (own_at k w at) (slice_get-get_or lists k [] in_lists);
         }
 
     clients_none : All (λ c. c.fault ≡ None) clients
@@ -171,7 +182,8 @@ module _ {S : Type 0} (plan : Plan) (run : Run S) (stopped : HasStopped plan run
       drivers_took = λ at d is. (
           let lt : at < n = (let len = driver_count in let many = log_count in let less = slice_get_within drivers at d is in omega (arith, len, many, less)) in
           let a : AtLog at = at_log at lt in
-          ap (λ (x : Driver). x.fault) (same_Some d a.driver (sym is ∙ a.is_driver)) ∙ driver_took plan logs clients laws all_clients at a.driver a.worker.log (get_or lists at []) a.can_merge a.listed);
+          ap (λ (x : Driver). x.fault) (same_Some d a.driver (sym is ∙ a.is_driver))
+          ∙ driver_took plan logs clients laws all_clients at a.driver a.worker.log (get_or lists at []) a.can_merge a.listed);
       clients_took = λ k c is. all_at (λ (x : ClientWorker). x.fault ≡ None) clients k c clients_none is;
     }
 
@@ -193,4 +205,5 @@ module _ {S : Type 0} (plan : Plan) (run : Run S) (stopped : HasStopped plan run
     reported at lt =
         let a : AtLog at = at_log at lt in
         let seen : seen_at workers at ≡ a.worker.log.seen = ap (λ (o : _). option_map_or seen_by o []) a.is_worker in
-        subst (λ (l : List Tx). IsPrefix l (get_or lists at [])) (sym seen) (seen_worker plan logs clients laws all_clients at a.driver a.worker.log (get_or lists at []) a.can_merge a.listed)
+        subst (λ (l : List Tx). IsPrefix l (get_or lists at [])) (sym seen)
+        (seen_worker plan logs clients laws all_clients at a.driver a.worker.log (get_or lists at []) a.can_merge a.listed)

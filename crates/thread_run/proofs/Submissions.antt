@@ -43,7 +43,8 @@ submits_looked : (turns : ℕ) (a b c : Driver) → DriverHears a b → Submits 
 submits_looked turns a b c h s = (
   λ none. sym h.fault ∙ s.0 none,
   s.1 ∙ ap (after_giving turns) h.feed,
-  goes_from_on (length a.pass.seen) (length b.pass.seen) a.pass b.pass c.pass (prefix_length a.pass.seen b.pass.seen h.looked.later) (goes_looked (length a.pass.seen) a.pass b.pass h.looked) s.2,
+  goes_from_on (length a.pass.seen) (length b.pass.seen) a.pass b.pass c.pass (prefix_length a.pass.seen b.pass.seen h.looked.later)
+      (goes_looked (length a.pass.seen) a.pass b.pass h.looked) s.2,
 )
 
 submits_heard : (turns : ℕ) (ds fs bs : List Driver) → AllZip DriverHears ds fs → AllZip (Submits turns) fs bs → AllZip (Submits turns) ds bs
@@ -54,14 +55,19 @@ submits_heard turns (d ∷ ds) [] bs h s = absurd h
 submits_heard turns (d ∷ ds) (f ∷ fs) [] h s = absurd s
 submits_heard turns (d ∷ ds) (f ∷ fs) (b ∷ bs) h s = (submits_looked turns d f b h.0 s.0, submits_heard turns ds fs bs h.1 s.1)
 
-parts_heard : (plan : Plan) (logs : List Log) (ds es : List Driver) → AllZip (PartsAddUp plan) logs ds → AllZip DriverHears ds es → AllZip (PartsAddUp plan) logs es
+parts_heard : (plan : Plan) (logs : List Log) (ds es : List Driver) → AllZip (PartsAddUp plan) logs ds → AllZip DriverHears ds es
+    → AllZip (PartsAddUp plan) logs es
 parts_heard plan [] [] [] z h = tt
 parts_heard plan [] [] (e ∷ es) z h = absurd h
 parts_heard plan [] (d ∷ ds) es z h = absurd z
 parts_heard plan (l ∷ logs) [] es z h = absurd z
 parts_heard plan (l ∷ logs) (d ∷ ds) [] z h = absurd h
-parts_heard plan (l ∷ logs) (d ∷ ds) (e ∷ es) z h =
-    (z.0 ∙ ap (λ (n : ℕ). n + 1 + length plan.clients) (sym (ap (λ (p : Rattle.locked_log.specs.History.Known Rattle.seq_base.specs.declared.tx.Tx.Tx). p.parts) h.0.looked.same)), parts_heard plan logs ds es z.1 h.1)
+parts_heard plan (l ∷ logs) (d ∷ ds) (e ∷ es) z h = (
+  z.0
+      ∙ ap (λ (n : ℕ). n + 1 + length plan.clients)
+      (sym (ap (λ (p : Rattle.locked_log.specs.History.Known Rattle.seq_base.specs.declared.tx.Tx.Tx). p.parts) h.0.looked.same)),
+  parts_heard plan logs ds es z.1 h.1,
+)
 
 pub remain_self : (cs : List ClientWorker) → AllZip Remains cs cs
 remain_self cs = zip_self Remains (λ c. (refl, refl)) cs
@@ -71,10 +77,14 @@ module _ {S : Type 0} where
   serve_self ws = zip_self Serves (λ w. (refl, looked_self w.log, λ ok. ok)) ws
 
   -- the workers were informed of what was submitted, and the driver of what they had seen
-  pub reported_of : (plan : Plan) (old new : Run S) → IsManned plan old → All (Ready old.world.logs.items old.world.boxes.items) new.workers.items → All (OfClient old.world.logs.items) new.clients.items
-      → AllZip ReportedWorker old.workers.items new.workers.items → AllZip ReportedClient old.clients.items new.clients.items → AllZip DriverHears old.drivers.items new.drivers.items
-      → AllZip IsDriverOf old.world.logs.items new.drivers.items → ReportedFirst (length new.drivers.items) old.drivers.items new.workers.items new.clients.items
-      → HeardFirst (length new.drivers.items) old.workers.items new.drivers.items → new ≡ record old { workers = new.workers; clients = new.clients; drivers = new.drivers } → HasReported plan old new
+  pub reported_of : (plan : Plan) (old new : Run S) → IsManned plan old
+      → All (Ready old.world.logs.items old.world.boxes.items) new.workers.items → All (OfClient old.world.logs.items) new.clients.items
+      → AllZip ReportedWorker old.workers.items new.workers.items → AllZip ReportedClient old.clients.items new.clients.items
+      → AllZip DriverHears old.drivers.items new.drivers.items
+      → AllZip IsDriverOf old.world.logs.items new.drivers.items
+      → ReportedFirst (length new.drivers.items) old.drivers.items new.workers.items new.clients.items
+      → HeardFirst (length new.drivers.items) old.workers.items new.drivers.items
+      → new ≡ record old { workers = new.workers; clients = new.clients; drivers = new.drivers } → HasReported plan old new
   reported_of plan old new m ready of hears clients heard own reported back rest =
       let count = zip_length IsDriverOf old.world.logs.items new.drivers.items own in
       let logs = m.logs in record {
@@ -83,10 +93,12 @@ module _ {S : Type 0} where
         clients = clients;
         reported = λ j d lt. reported j d (omega (arith, lt, count, logs));
         heard = λ j d lt. back j d (omega (arith, lt, count, logs));
-        manned = manned_on plan old new.workers.items new.clients.items new.drivers.items m (zip_map ReportedWorker Serves serves_heard old.workers.items new.workers.items hears)
+        manned = manned_on plan old new.workers.items new.clients.items new.drivers.items m
+            (zip_map ReportedWorker Serves serves_heard old.workers.items new.workers.items hears)
             (zip_map ReportedClient Remains client_remains old.clients.items new.clients.items clients) ready of own
             (parts_heard plan old.world.logs.items old.drivers.items new.drivers.items m.parts heard)
-            (λ at e is. (let (b, b_is, hd) = zip_back DriverHears old.drivers.items new.drivers.items at e heard is in given_looked (arrivals_for plan.arrivals at) b e hd (m.given at b b_is)))
+            (λ at e is. (let (b, b_is, hd) = zip_back DriverHears old.drivers.items new.drivers.items at e heard is in
+            given_looked (arrivals_for plan.arrivals at) b e hd (m.given at b b_is)))
             new (ap (λ (x : Run S). x.world) rest) (ap (λ (x : Run S). x.due) rest) refl refl refl;
         same = rest;
       }
@@ -96,19 +108,23 @@ module _ {S : Type 0} where
     submits_none run m = record { submitted = λ at d lt. absurd (omega (arith, lt)); others = λ at d le. refl; count = refl; manned = m; same = refl }
 
     -- one log more
-    pub submits_more : (k : ℕ) (old mid : Run S) (r d : Driver) (log : Log) → SoManySubmit plan turns k old mid → k < length mid.drivers.items → r ≡ get_or mid.drivers.items k r
+    pub submits_more : (k : ℕ) (old mid : Run S) (r d : Driver) (log : Log) → SoManySubmit plan turns k old mid
+        → k < length mid.drivers.items → r ≡ get_or mid.drivers.items k r
         → DriverGoes r d → d.feed ≡ after_giving turns r.feed → ((all : List TimedTx) → HasGiven all r → HasGiven all d)
-        → (new : Run S) → new ≡ record mid { drivers = new.drivers } → new.drivers.items ≡ slice_set mid.drivers.items k d → SoManySubmit plan turns (k + 1) old new
+        → (new : Run S) → new ≡ record mid { drivers = new.drivers } → new.drivers.items ≡ slice_set mid.drivers.items k d
+        → SoManySubmit plan turns (k + 1) old new
     submits_more k old mid r d log so lt value goes feed given new rest items = record {
       submitted = λ at e below. subst (λ (ds : List Driver). Submits turns (get_or old.drivers.items at e) (get_or ds at e)) (sym items) (one at e below);
       others = λ at e le.
           let other : k ≡ at → ⊥ = λ is. absurd (omega (arith, is, le)) in
           ap (λ (ds : List Driver). get_or ds at e) items ∙ or_other drivers k at d e other ∙ so.others at e (omega (arith, le));
       count = ap length items ∙ length-set drivers k d ∙ so.count;
-      manned = manned_on plan mid mid.workers.items mid.clients.items (slice_set drivers k d) m (serve_self mid.workers.items) (remain_self mid.clients.items) m.ready m.of
+      manned = manned_on plan mid mid.workers.items mid.clients.items (slice_set drivers k d) m (serve_self mid.workers.items)
+          (remain_self mid.clients.items) m.ready m.of
           (zip_set IsDriverOf logs drivers k log d m.drivers (own_on (get_or logs k log) r d own goes))
           (zip_set (PartsAddUp plan) logs drivers k log d m.parts (parts ∙ ap (λ (n : ℕ). n + 1 + length plan.clients) (sym goes.parts)))
-          had new (ap (λ (x : Run S). x.world) rest) (ap (λ (x : Run S). x.due) rest) (ap (λ (x : Run S). x.workers.items) rest) (ap (λ (x : Run S). x.clients.items) rest) items;
+          had new (ap (λ (x : Run S). x.world) rest) (ap (λ (x : Run S). x.due) rest) (ap (λ (x : Run S). x.workers.items) rest)
+          (ap (λ (x : Run S). x.clients.items) rest) items;
       same = rest ∙ ap (λ (x : Run S). record x { drivers = new.drivers }) so.same;
     }
       where
@@ -136,7 +152,8 @@ module _ {S : Type 0} where
               let same : k ≡ at = grind (arith, nat_tests) in
               let was : r ≡ get_or old.drivers.items k e = sym (get_or_from_slice_get drivers k r e there) ∙ so.others k e (omega arith) in
               let here : Submits turns (get_or old.drivers.items k e) d = subst (λ (x : Driver). Submits turns x d) was (goes.fault, feed, goes_of r d goes) in
-              subst (λ (j : ℕ). Submits turns (get_or old.drivers.items j e) (get_or (slice_set drivers k d) j e)) same (subst (Submits turns (get_or old.drivers.items k e)) (sym (or_set drivers k d e lt)) here))
+              subst (λ (j : ℕ). Submits turns (get_or old.drivers.items j e) (get_or (slice_set drivers k d) j e)) same
+              (subst (Submits turns (get_or old.drivers.items k e)) (sym (or_set drivers k d e lt)) here))
           | inr not_so ↦ (
               let other : k ≡ at → ⊥ = λ is. absurd (grind (arith, nat_tests)) in
               let less : at < k = grind (arith, nat_tests) in
@@ -148,7 +165,8 @@ module _ {S : Type 0} where
           | inl yes_so ↦ (
               let same : k ≡ at = grind (arith, nat_tests) in
               let here : d ≡ e = same_Some d e (sym (get_set drivers k d r there) ∙ ap (slice_get (slice_set drivers k d)) same ∙ is) in
-              subst (λ (j : ℕ). HasGiven (arrivals_for plan.arrivals j) e) same (subst (HasGiven (arrivals_for plan.arrivals k)) here (given (arrivals_for plan.arrivals k) (m.given k r there))))
+              subst (λ (j : ℕ). HasGiven (arrivals_for plan.arrivals j) e) same
+              (subst (HasGiven (arrivals_for plan.arrivals k)) here (given (arrivals_for plan.arrivals k) (m.given k r there))))
           | inr not_so ↦ (
               let other : k ≡ at → ⊥ = λ e'. absurd (grind (arith, nat_tests)) in
               m.given at e (sym (get_other drivers k at d other) ∙ is))
@@ -162,7 +180,8 @@ module _ {S : Type 0} where
     }
 
     -- The workers are informed, the driver submits, and the workers are informed of what it submitted.
-    pub heard_of : (old first mid new : Run S) → HasReported plan old first → HasSubmitted plan turns first mid → HasReported plan mid new → HasHeard plan turns old new
+    pub heard_of : (old first mid new : Run S) → HasReported plan old first → HasSubmitted plan turns first mid → HasReported plan mid new
+        → HasHeard plan turns old new
     heard_of old first mid new before s reported = record {
       between = mid.drivers.items;
       submitted = submits_heard turns old.drivers.items first.drivers.items mid.drivers.items before.drivers s.submitted;
@@ -174,18 +193,25 @@ module _ {S : Type 0} where
           let count = zip_length IsDriverOf first.world.logs.items first.drivers.items before.manned.drivers in
           let logs = before.manned.logs in
           let seen : IsPrefix (seen_at old.workers.items at) a.pass.seen =
-          subst (λ (x : Driver). IsPrefix (seen_at old.workers.items at) x.pass.seen) (get_or_from_slice_get first.drivers.items at a a a_is) (before.heard at a (omega (arith, within, count, logs))) in
+          subst (λ (x : Driver). IsPrefix (seen_at old.workers.items at) x.pass.seen)
+          (get_or_from_slice_get first.drivers.items at a a a_is) (before.heard at a (omega (arith, within, count, logs))) in
           let low : ℕ = length (seen_at old.workers.items at) in (
             d,
             d_is,
             goes_from_on low low d.pass a.pass e.pass (omega arith) (goes_looked low d.pass a.pass heard.looked)
-                (goes_from_on low low a.pass b.pass e.pass (omega arith) (goes_lower low (length a.pass.seen) a.pass b.pass (prefix_length (seen_at old.workers.items at) a.pass.seen seen) sub.2) (goes_looked low b.pass e.pass last.looked)),
+                (goes_from_on low low a.pass b.pass e.pass (omega arith)
+                (goes_lower low (length a.pass.seen) a.pass b.pass (prefix_length (seen_at old.workers.items at) a.pass.seen seen) sub.2)
+                (goes_looked low b.pass e.pass last.looked)),
           ));
       given = s.manned.given;
       heard = reported.drivers;
       reported = reported.reported;
-      workers = workers_hear old.workers.items first.workers.items new.workers.items before.workers (subst (λ (r : Run S). AllZip ReportedWorker r.workers.items new.workers.items) s.same reported.workers);
-      clients = clients_hear old.clients.items first.clients.items new.clients.items before.clients (subst (λ (r : Run S). AllZip ReportedClient r.clients.items new.clients.items) s.same reported.clients);
+      workers = workers_hear old.workers.items first.workers.items new.workers.items before.workers
+          (subst (λ (r : Run S). AllZip ReportedWorker r.workers.items new.workers.items) s.same reported.workers);
+      clients = clients_hear old.clients.items first.clients.items new.clients.items before.clients
+          (subst (λ (r : Run S). AllZip ReportedClient r.clients.items new.clients.items) s.same reported.clients);
       manned = reported.manned;
-      same = reported.same ∙ ap (λ (x : Run S). record x { workers = new.workers; clients = new.clients; drivers = new.drivers }) (s.same ∙ ap (λ (x : Run S). record x { drivers = mid.drivers }) before.same);
+      same = reported.same
+          ∙ ap (λ (x : Run S). record x { workers = new.workers; clients = new.clients; drivers = new.drivers })
+          (s.same ∙ ap (λ (x : Run S). record x { drivers = mid.drivers }) before.same);
     }

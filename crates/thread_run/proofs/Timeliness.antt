@@ -42,7 +42,8 @@ gains_on a b c seen x y p is = elim (y p is) [
 pub gains_after : (old new : Known Tx) (tx : Tx) (answer : Result Placed SubmitFault) → HasSubmitted old tx answer new → GainsFrom (length old.seen) old new
 gains_after old new tx answer h p is = by answer h (subst (λ (o : List ℕ). 1 ≤ times p o) (ap (λ (k : Known Tx). k.own) h.pass) is)
   where
-    by : (answer : Result Placed SubmitFault) → HasSubmitted old tx answer new → 1 ≤ times p (own_after old.own answer) → (1 ≤ times p old.own) ⊎ (length old.seen ≤ p)
+    by : (answer : Result Placed SubmitFault) → HasSubmitted old tx answer new → 1 ≤ times p (own_after old.own answer)
+        → (1 ≤ times p old.own) ⊎ (length old.seen ≤ p)
     by (Ok (At k)) h is =
         let at : k ≡ length h.found = h.submitted.cause.1 in
         let len = prefix_length old.seen h.found h.later in
@@ -79,7 +80,8 @@ pub goes_of : (old new : Driver) → DriverGoes old new → GoesFrom (length old
 goes_of old new g = record { seen = g.seen; gains = g.gains }
 
 -- the driver submitted a transaction
-pub goes_submitted : (old new : Driver) (tx : Tx) (answer : Result Placed SubmitFault) → HasSubmitted old.pass tx answer new.pass → IsPrefix old.pass.seen new.pass.seen → old.fault ≡ None → DriverGoes old new
+pub goes_submitted : (old new : Driver) (tx : Tx) (answer : Result Placed SubmitFault) → HasSubmitted old.pass tx answer new.pass
+    → IsPrefix old.pass.seen new.pass.seen → old.fault ≡ None → DriverGoes old new
 goes_submitted old new tx answer h seen none = record {
   log = ap (λ (k : Known Tx). k.log) h.pass;
   parts = ap (λ (k : Known Tx). k.parts) h.pass;
@@ -100,13 +102,15 @@ stands_longer all turns p seen more le s = record {
 }
 
 -- what a pass gains later leaves none early
-pub early_on : (all : List TimedTx) (turns bound low : ℕ) (old new : Known Tx) → bound ≤ low → GoesFrom low old new → NoneEarly all turns bound old → NoneEarly all turns bound new
+pub early_on : (all : List TimedTx) (turns bound low : ℕ) (old new : Known Tx) → bound ≤ low → GoesFrom low old new
+    → NoneEarly all turns bound old → NoneEarly all turns bound new
 early_on all turns bound low old new le g early p below is = elim (g.gains p is) [
   | inl was ↦ stands_longer all turns p old.seen new.seen g.seen (early p below was)
   | inr later ↦ absurd (omega (arith, later, le, below))
 ]
 
-stand_at : (log : List Tx) (own : List ℕ) (txs : List Tx) (p : ℕ) → StandIn log own txs → 1 ≤ times p own → (i : ℕ) × (t : Tx) × (slice_get txs i ≡ Some t) × (slice_get log p ≡ Some t)
+stand_at : (log : List Tx) (own : List ℕ) (txs : List Tx) (p : ℕ) → StandIn log own txs → 1 ≤ times p own
+    → (i : ℕ) × (t : Tx) × (slice_get txs i ≡ Some t) × (slice_get log p ≡ Some t)
 stand_at log [] txs p s is = absurd (omega (arith, is))
 stand_at log (k ∷ ks) [] p s is = absurd s
 stand_at log (k ∷ ks) (x ∷ xs) p (inr s) is = (let (i, t, found, there) = stand_at log (k ∷ ks) xs p s is in (suc i, t, found, there))
@@ -156,7 +160,8 @@ pub given_more_turns : (all : List TimedTx) (turns more : ℕ) (d : Driver) → 
 given_more_turns all turns more d le g = record { given = g.given; all_is = g.all_is; by = by_more turns more g.given le g.by }
 
 -- what is given by a count of turns comes by it
-pub given_on : (all : List TimedTx) (turns now : ℕ) (old new : Driver) → turns ≤ now → new.feed ≡ after_giving turns old.feed → GivenBy now all old → GivenBy now all new
+pub given_on : (all : List TimedTx) (turns now : ℕ) (old new : Driver) → turns ≤ now → new.feed ≡ after_giving turns old.feed
+    → GivenBy now all old → GivenBy now all new
 given_on all turns now old new le feed g =
     let n : ℕ = count_by_now turns old.feed.left in
     let more : List TimedTx = take n old.feed.left in
@@ -198,14 +203,16 @@ tx_at : (all : List TimedTx) (i : ℕ) (a : TimedTx) → slice_get all i ≡ Som
 tx_at all i a is = slice_get-map (λ (x : TimedTx). x.tx) all i ∙ ap (option_map (λ (x : TimedTx). x.tx)) is
 
 -- of arrivals whose transactions are distinct, two with one transaction are one
-one_arrival : (all : List TimedTx) (i j : ℕ) (a b : TimedTx) → AreDistinct (txs_of all) → slice_get all i ≡ Some a → slice_get all j ≡ Some b → a.tx ≡ b.tx → a ≡ b
+one_arrival : (all : List TimedTx) (i j : ℕ) (a b : TimedTx) → AreDistinct (txs_of all) → slice_get all i ≡ Some a
+    → slice_get all j ≡ Some b → a.tx ≡ b.tx → a ≡ b
 one_arrival all i j a b once at there same =
     let here : slice_get (txs_of all) i ≡ Some b.tx = subst (λ (t : Tx). slice_get (txs_of all) i ≡ Some t) same (tx_at all i a at) in
     let place : i ≡ j = one_place (txs_of all) i j b.tx once here (tx_at all j b there) in
     same_Some a b (subst (λ (k : ℕ). Some a ≡ slice_get all k) place (sym at) ∙ there)
 
 -- an arrival that was known stands at an own place of the driver's pass, not early
-known_by : (all : List TimedTx) (turns : ℕ) (known list : List Tx) (pass : Known Tx) (i : ℕ) (t : TimedTx) → IsPrefix known list → AreDistinct list → AreDistinct (txs_of all) → IsOwned all pass list → NoneEarly all turns (length known) pass
+known_by : (all : List TimedTx) (turns : ℕ) (known list : List Tx) (pass : Known Tx) (i : ℕ) (t : TimedTx) → IsPrefix known list
+    → AreDistinct list → AreDistinct (txs_of all) → IsOwned all pass list → NoneEarly all turns (length known) pass
     → slice_get all i ≡ Some t → holds t.tx known ≡ true → t.turn ≤ turns
 known_by all turns known list pass i t le distinct once owned early at held =
     let (q, found) = holds_place known t.tx held in
@@ -217,7 +224,8 @@ known_by all turns known list pass i t le distinct once owned early at held =
     subst (λ (x : TimedTx). x.turn ≤ turns) (one_arrival all s.number i s.arrival t once s.is at tx) s.by
 
 -- Where each arrival stands at an own place of the driver's pass, and none early, a node knew none early.
-pub none_known : (all : List TimedTx) (turns : ℕ) (known list : List Tx) (pass : Known Tx) → IsPrefix known list → AreDistinct list → AreDistinct (txs_of all) → IsOwned all pass list → NoneEarly all turns (length known) pass
+pub none_known : (all : List TimedTx) (turns : ℕ) (known list : List Tx) (pass : Known Tx) → IsPrefix known list → AreDistinct list
+    → AreDistinct (txs_of all) → IsOwned all pass list → NoneEarly all turns (length known) pass
     → All (λ t. holds t.tx known ≡ true → t.turn ≤ turns) all
 none_known all turns known list pass le distinct once owned early i d lt held =
     known_by all turns known list pass i (get_or all i d) le distinct once owned early (slice_get-get_or all i d lt) held
@@ -225,7 +233,10 @@ none_known all turns known list pass le distinct once owned early i d lt held =
 -- of distinct transactions the first ones are distinct
 pub first_distinct : (xs ys : List Tx) → AreDistinct (xs ++ ys) → AreDistinct xs
 first_distinct xs ys distinct i j d less within same =
-    let first : get_or (xs ++ ys) i d ≡ get_or xs i d = get_or_from_slice_get (xs ++ ys) i (get_or xs i d) d (get_grown xs ys i (get_or xs i d) (slice_get-get_or xs i d (omega (arith, less, within)))) in
-    let second : get_or (xs ++ ys) j d ≡ get_or xs j d = get_or_from_slice_get (xs ++ ys) j (get_or xs j d) d (get_grown xs ys j (get_or xs j d) (slice_get-get_or xs j d within)) in
+    let first : get_or (xs ++ ys) i d ≡ get_or xs i d =
+    get_or_from_slice_get (xs ++ ys) i (get_or xs i d) d
+    (get_grown xs ys i (get_or xs i d) (slice_get-get_or xs i d (omega (arith, less, within)))) in
+    let second : get_or (xs ++ ys) j d ≡ get_or xs j d =
+    get_or_from_slice_get (xs ++ ys) j (get_or xs j d) d (get_grown xs ys j (get_or xs j d) (slice_get-get_or xs j d within)) in
     let len = length-append xs ys in
     distinct i j d less (omega (arith, len, within)) (first ∙ same ∙ sym second)

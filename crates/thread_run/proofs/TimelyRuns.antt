@@ -62,7 +62,8 @@ take_fewer zero xs = omega arith
 take_fewer (suc k) [] = omega arith
 take_fewer (suc k) (x ∷ xs) = (let rest = take_fewer k xs in omega (arith, rest))
 
-module _ {S : Type 0} (fits : Check) (plan : Plan) (m : Meaning S) (gives : ℕ → Gives) (capacity : ℕ) (workers : List (Working S)) (stand : AllStand fits plan m gives capacity workers) where
+module _ {S : Type 0} (fits : Check) (plan : Plan) (m : Meaning S) (gives : ℕ → Gives) (capacity : ℕ) (workers : List (Working S))
+    (stand : AllStand fits plan m gives capacity workers) where
   pub known_within : (k at : ℕ) → at < plan.setting.n → known_before k (journals_at workers) at ≤ length (seen_at workers at)
   known_within k at lt =
       let (w, is, s) = stand at lt in
@@ -70,12 +71,14 @@ module _ {S : Type 0} (fits : Check) (plan : Plan) (m : Meaning S) (gives : ℕ 
       let seen = ap length (seen_is workers at w is) in
       let known = ap length (known_is fits plan m (gives at) capacity at w s) in
       let less = take_fewer w.known w.log.seen in
-      let fewer = prefix_length (known_in (events_of (before_tick k (journals_at workers at)))) (known_in (events_of (journals_at workers at))) (known_prefix k (journals_at workers at)) in
+      let fewer = prefix_length (known_in (events_of (before_tick k (journals_at workers at))))
+      (known_in (events_of (journals_at workers at))) (known_prefix k (journals_at workers at)) in
       omega (arith, journal, seen, known, less, fewer)
 
 -- ---- a round
 
-module _ (plan : Plan) (m n : Moment) (tick : Option ℕ) (logs : ℕ → List Tx) (r : IsRound plan tick logs m n) (ticks : ℕ) (ticked : (at : ℕ) → at < plan.setting.n → ticks_in (events_of (m at)) ≡ ticks) where
+module _ (plan : Plan) (m n : Moment) (tick : Option ℕ) (logs : ℕ → List Tx) (r : IsRound plan tick logs m n) (ticks : ℕ)
+    (ticked : (at : ℕ) → at < plan.setting.n → ticks_in (events_of (m at)) ≡ ticks) where
   grown_events : (at : ℕ) (below : at < plan.setting.n) → events_of (n at) ≡ events_of (m at) ++ events_of ((r at below).more)
   grown_events at below = ap events_of (r at below).grown ∙ map-append (λ (e : Entry). e.event) (m at) ((r at below).more)
 
@@ -108,7 +111,8 @@ module _ (plan : Plan) (m n : Moment) (tick : Option ℕ) (logs : ℕ → List T
   stays (Some floor) is k at lt below = elim (cases_Bool (k == ticks)) [
     | inl so ↦ (
         let same : ticks ≡ k = grind (arith, nat_tests) in
-        let reported : events_of ((r at below).more) ≡ Tick floor ∷ (r at below).events = (r at below).reported ∙ ap (λ (t : Option ℕ). tick_of t ++ (r at below).events) is in
+        let reported : events_of ((r at below).more) ≡ Tick floor ∷ (r at below).events =
+        (r at below).reported ∙ ap (λ (t : Option ℕ). tick_of t ++ (r at below).events) is in
         let (e, rest, more_is, event_is) = first_is ((r at below).more) (Tick floor) ((r at below).events) reported in
         let before = ticked at below in
         let whole : before_tick ticks (m at) ≡ m at = cut_whole ticks (m at) (omega (arith, before)) in
@@ -144,8 +148,10 @@ module _ (plan : Plan) (m n : Moment) (tick : Option ℕ) (logs : ℕ → List T
 
 module _ (plan : Plan) where
   -- a round keeps a run timely
-  pub timely_round : (m n : Moment) (tick : Option ℕ) (logs : ℕ → List Tx) (ticks turns now : ℕ) (drivers : List Driver) → IsRound plan tick logs m n → turns ≡ turns_at plan m → now ≡ turns_at plan n
-      → ((at : ℕ) (d : Driver) → slice_get drivers at ≡ Some d → HasGiven (arrivals_for plan.arrivals at) d) → IsTimely plan ticks turns m drivers → IsTimely plan (ticks + ticks_of tick) now n drivers
+  pub timely_round : (m n : Moment) (tick : Option ℕ) (logs : ℕ → List Tx) (ticks turns now : ℕ) (drivers : List Driver)
+      → IsRound plan tick logs m n → turns ≡ turns_at plan m → now ≡ turns_at plan n
+      → ((at : ℕ) (d : Driver) → slice_get drivers at ≡ Some d → HasGiven (arrivals_for plan.arrivals at) d)
+      → IsTimely plan ticks turns m drivers → IsTimely plan (ticks + ticks_of tick) now n drivers
   timely_round m n tick logs ticks turns now drivers r was is had t = record {
     ticked = new_ticked plan m n tick logs r ticks t.ticked;
     early = λ k at d le lt there. elim (cases_Bool (k == ticks + ticks_of tick)) [
@@ -153,18 +159,23 @@ module _ (plan : Plan) where
           let same : ticks + ticks_of tick ≡ k = grind (arith, nat_tests) in
           let later = turns_now plan m n tick logs r ticks t.ticked in
           let bound : ℕ = known_before k n at in
-          let given : GivenBy (turns_at plan (at_tick (ticks + ticks_of tick) n)) (arrivals_for plan.arrivals at) d = given_more_turns (arrivals_for plan.arrivals at) turns _ d (omega (arith, was, later)) (t.given at d lt there) in
+          let given : GivenBy (turns_at plan (at_tick (ticks + ticks_of tick) n)) (arrivals_for plan.arrivals at) d =
+          given_more_turns (arrivals_for plan.arrivals at) turns _ d (omega (arith, was, later)) (t.given at d lt there) in
           subst (λ (j : ℕ). NoneEarly (arrivals_for plan.arrivals at) (turns_at plan (at_tick j n)) bound d.pass) same
           (none_yet (arrivals_for plan.arrivals at) (turns_at plan (at_tick (ticks + ticks_of tick) n)) bound d (had at d there) given))
       | inr not_so ↦ (
           let less : k < ticks + ticks_of tick = grind (arith, nat_tests) in
           let few = one tick in
-          let before : NoneEarly (arrivals_for plan.arrivals at) (turns_at plan (at_tick k m)) (known_before k m at) d.pass = t.early k at d (omega (arith, less, few)) lt there in
-          let known : known_before k m at ≡ known_before k n at = ap (λ (j : List Entry). length (known_in (events_of j))) (stays plan m n tick logs r ticks t.ticked tick refl k at less lt) in
+          let before : NoneEarly (arrivals_for plan.arrivals at) (turns_at plan (at_tick k m)) (known_before k m at) d.pass =
+          t.early k at d (omega (arith, less, few)) lt there in
+          let known : known_before k m at ≡ known_before k n at =
+          ap (λ (j : List Entry). length (known_in (events_of j))) (stays plan m n tick logs r ticks t.ticked tick refl k at less lt) in
           subst (λ (b : ℕ). NoneEarly (arrivals_for plan.arrivals at) (turns_at plan (at_tick k n)) b d.pass) known
-          (subst (λ (x : ℕ). NoneEarly (arrivals_for plan.arrivals at) x (known_before k m at) d.pass) (turns_stay plan m n tick logs r ticks t.ticked k less) before))
+          (subst (λ (x : ℕ). NoneEarly (arrivals_for plan.arrivals at) x (known_before k m at) d.pass)
+          (turns_stay plan m n tick logs r ticks t.ticked k less) before))
     ];
-    given = λ at d lt there. given_more_turns (arrivals_for plan.arrivals at) turns now d (let grow = turns_grow plan m n tick logs r ticks t.ticked in omega (arith, was, is, grow)) (t.given at d lt there);
+    given = λ at d lt there. given_more_turns (arrivals_for plan.arrivals at) turns now d
+        (let grow = turns_grow plan m n tick logs r ticks t.ticked in omega (arith, was, is, grow)) (t.given at d lt there);
   }
     where
       one : (t : Option ℕ) → ticks_of t ≤ 1
@@ -172,15 +183,18 @@ module _ (plan : Plan) where
       one (Some floor) = omega arith
 
   -- what the driver gives after all that the workers had seen leaves none early
-  pub early_after : {S : Type 0} (ticks turns : ℕ) (m : Moment) (workers : List (Working S)) (ds es : List Driver) → ((k at : ℕ) → at < plan.setting.n → known_before k m at ≤ length (seen_at workers at)) → SubmitsAfter workers ds es
+  pub early_after : {S : Type 0} (ticks turns : ℕ) (m : Moment) (workers : List (Working S)) (ds es : List Driver)
+      → ((k at : ℕ) → at < plan.setting.n → known_before k m at ≤ length (seen_at workers at)) → SubmitsAfter workers ds es
       → IsTimely plan ticks turns m ds → (k at : ℕ) (e : Driver) → k ≤ ticks → at < plan.setting.n → slice_get es at ≡ Some e
       → NoneEarly (arrivals_for plan.arrivals at) (turns_at plan (at_tick k m)) (known_before k m at) e.pass
   early_after ticks turns m workers ds es within after t k at e le lt there =
       let (d, was, goes) = after at e there in
-      early_on (arrivals_for plan.arrivals at) (turns_at plan (at_tick k m)) (known_before k m at) (length (seen_at workers at)) d.pass e.pass (within k at lt) goes (t.early k at d le lt was)
+      early_on (arrivals_for plan.arrivals at) (turns_at plan (at_tick k m)) (known_before k m at)
+      (length (seen_at workers at)) d.pass e.pass (within k at lt) goes (t.early k at d le lt was)
 
   -- and what it gives has come by the turns so far
-  pub given_heard : {S : Type 0} (turns now : ℕ) (old new : Run S) → turns ≤ now → HasHeard plan turns old new → ((at : ℕ) (d : Driver) → at < plan.setting.n → slice_get old.drivers.items at ≡ Some d → GivenBy now (arrivals_for plan.arrivals at) d)
+  pub given_heard : {S : Type 0} (turns now : ℕ) (old new : Run S) → turns ≤ now → HasHeard plan turns old new
+      → ((at : ℕ) (d : Driver) → at < plan.setting.n → slice_get old.drivers.items at ≡ Some d → GivenBy now (arrivals_for plan.arrivals at) d)
       → (at : ℕ) (e : Driver) → at < plan.setting.n → slice_get new.drivers.items at ≡ Some e → GivenBy now (arrivals_for plan.arrivals at) e
   given_heard turns now old new le h given at e lt there =
       let (b, between, heard) = zip_back DriverHears h.between new.drivers.items at e h.heard there in
@@ -189,9 +203,12 @@ module _ (plan : Plan) where
 
   -- ---- the end
 
-  pub known_none_early : (rules : KeepsRules plan) (k at : ℕ) (m : Moment) (list : List Tx) (d : Driver) → at < plan.setting.n → IsPrefix (known_in (events_of (before_tick k (m at)))) list → AreDistinct list
-      → IsOwned (arrivals_for plan.arrivals at) d.pass list → NoneEarly (arrivals_for plan.arrivals at) (turns_at plan (at_tick k m)) (known_before k m at) d.pass
+  pub known_none_early : (rules : KeepsRules plan) (k at : ℕ) (m : Moment) (list : List Tx) (d : Driver) → at < plan.setting.n
+      → IsPrefix (known_in (events_of (before_tick k (m at)))) list → AreDistinct list
+      → IsOwned (arrivals_for plan.arrivals at) d.pass list
+      → NoneEarly (arrivals_for plan.arrivals at) (turns_at plan (at_tick k m)) (known_before k m at) d.pass
       → KnowsNoneEarly plan at (turns_at plan (at_tick k m)) (before_tick k (m at))
   known_none_early rules k at m list d lt le distinct owned early =
       none_known (arrivals_for plan.arrivals at) (turns_at plan (at_tick k m)) (known_in (events_of (before_tick k (m at)))) list d.pass le distinct
-      (first_distinct (txs_of (arrivals_for plan.arrivals at)) (flat_map (λ l. l) (map client_list plan.clients)) (has_room plan rules at lt).distinct) owned early
+      (first_distinct (txs_of (arrivals_for plan.arrivals at)) (flat_map (λ l. l) (map client_list plan.clients))
+      (has_room plan rules at lt).distinct) owned early

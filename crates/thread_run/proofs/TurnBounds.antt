@@ -29,7 +29,8 @@ most_within all turns = elim (cases_Bool (nat_lt turns all)) [
 
 module _ {S : Type 0} where
   -- each worker has delivered few, if it had memory
-  pub each_few : (most before : ℕ) (vs ws : List (Working S)) → AllZip (DeliversFew most) vs ws → sum_by turns_by vs ≤ before → before + most ≤ 1000000 → All (HasFew 1000000) ws
+  pub each_few : (most before : ℕ) (vs ws : List (Working S)) → AllZip (DeliversFew most) vs ws → sum_by turns_by vs ≤ before
+      → before + most ≤ 1000000 → All (HasFew 1000000) ws
   each_few most before vs ws z le enough = λ i d lt.
       let w : Working S = get_or ws i d in
       let (v, there, few) = zip_back (DeliversFew most) vs ws i w z (slice_get-get_or ws i d lt) in
@@ -50,13 +51,15 @@ module _ {S : Type 0} where
       omega (arith, first, rest, a, b, more)
 
   -- a round stays below the bound
-  pub stays_few : (plan : Plan) (old : Run S) (ws : List (Working S)) → IsManned plan old → IsCounted plan old → AllZip (DeliversFew (most_in plan.turns old.turns)) old.workers.items ws → NoneFailed ws
+  pub stays_few : (plan : Plan) (old : Run S) (ws : List (Working S)) → IsManned plan old → IsCounted plan old
+      → AllZip (DeliversFew (most_in plan.turns old.turns)) old.workers.items ws → NoneFailed ws
       → sum_by turns_by ws < plan.turns + 32 * plan.setting.n
   stays_few plan old ws manned counted few none =
       let sum = counted.turns in
       let bound = counted.few in
       let all : sum_by turns_by ws ≤ sum_by turns_by old.workers.items + most_in plan.turns old.turns * plan.setting.n =
-      subst (λ (k : ℕ). sum_by turns_by ws ≤ sum_by turns_by old.workers.items + most_in plan.turns old.turns * k) manned.workers (grown (most_in plan.turns old.turns) old.workers.items ws few none) in
+      subst (λ (k : ℕ). sum_by turns_by ws ≤ sum_by turns_by old.workers.items + most_in plan.turns old.turns * k) manned.workers
+      (grown (most_in plan.turns old.turns) old.workers.items ws few none) in
       elim (cases_Bool (nat_lt old.turns plan.turns)) [
         | inl so ↦ (
             let lt : old.turns < plan.turns = grind (arith, nat_tests) in
@@ -69,7 +72,8 @@ module _ {S : Type 0} where
             omega (arith, more, sum, bound))
       ]
 
-  pub workers_few : (plan : Plan) (old : Run S) (ws : List (Working S)) → KeepsRules plan → IsCounted plan old → AllZip (DeliversFew (most_in plan.turns old.turns)) old.workers.items ws → All (HasFew 1000000) ws
+  pub workers_few : (plan : Plan) (old : Run S) (ws : List (Working S)) → KeepsRules plan → IsCounted plan old
+      → AllZip (DeliversFew (most_in plan.turns old.turns)) old.workers.items ws → All (HasFew 1000000) ws
   workers_few plan old ws rules counted few =
       let most = rules.few_turns in
       let n = rules.setting.replicas.few in
@@ -85,7 +89,8 @@ module _ {S : Type 0} where
 
   pub step_of : (fits : Check) (plan : Plan) (m : Meaning S) (tick : Option ℕ) (old : Run S) (ws : List (Working S)) (cs : List ClientWorker) (new : Run S)
       → new ≡ record old { workers = new.workers; clients = new.clients; turns = new.turns } → new.workers.items ≡ ws → new.clients.items ≡ cs
-      → AllZip (Worked fits plan m old.world.logs.items old.world.boxes.items tick) old.workers.items ws → AllZip (Took (most_in plan.turns old.turns) old.workers.items) old.workers.items ws
+      → AllZip (Worked fits plan m old.world.logs.items old.world.boxes.items tick) old.workers.items ws
+      → AllZip (Took (most_in plan.turns old.turns) old.workers.items) old.workers.items ws
       → AllZip (ClientWorked old.world.logs.items) old.clients.items cs → AreCounted (length ws) new.turns ws → IsStep fits plan m tick old new
   step_of fits plan m tick old ws cs new same items clients_are worked took went counted =
       let all = counted_all new.turns ws counted in record {

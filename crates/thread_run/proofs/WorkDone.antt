@@ -34,7 +34,8 @@ looked_on p q r a b = record {
 
 taken_on : (p : Receiver) (xs ys : List Event) (g h : List News) → taken_with (taken_with p xs g) ys h ≡ taken_with p (xs ++ ys) h
 taken_on p xs ys g h =
-    ap (λ (l : List Letter). record p { taken = l; heard = h }) (append_assoc p.taken (letters_in xs) (letters_in ys) ∙ ap (λ (l : List Letter). p.taken ++ l) (sym (flat_map-append letters_of xs ys)))
+    ap (λ (l : List Letter). record p { taken = l; heard = h })
+    (append_assoc p.taken (letters_in xs) (letters_in ys) ∙ ap (λ (l : List Letter). p.taken ++ l) (sym (flat_map-append letters_of xs ys)))
 
 -- a pass that took nothing
 not_taken : (es : List Event) (p q : Receiver) → letters_in es ≡ [] → q ≡ p → q ≡ taken_with p es q.heard
@@ -61,7 +62,8 @@ module _ {S : Type 0} (fits : Check) (plan : Plan) (m : Meaning S) where
       let then : After = acts fits plan a.at (begin fits plan a.at first.replica) ys in
       let more = acts_more fits plan a.at (replica_of m a.seat) xs ys in
       let second : acts fits plan b.at (begin fits plan b.at (replica_of m b.seat)) ys ≡ then =
-      ap (λ (r : Replica). acts fits plan b.at (begin fits plan b.at r) ys) one.replica ∙ ap (λ (k : ℕ). acts fits plan k (begin fits plan k first.replica) ys) one.at in
+      ap (λ (r : Replica). acts fits plan b.at (begin fits plan b.at r) ys) one.replica
+      ∙ ap (λ (k : ℕ). acts fits plan k (begin fits plan k first.replica) ys) one.at in
       record {
         at = two.at ∙ one.at;
         replica = two.replica ∙ ap (λ (x : After). x.replica) second ∙ sym (ap (λ (x : After). x.replica) more);
@@ -73,15 +75,18 @@ module _ {S : Type 0} (fits : Check) (plan : Plan) (m : Meaning S) where
         take = two.take ∙ ap (λ (p : Receiver). taken_with p ys c.take.heard) one.take ∙ taken_on a.take xs ys b.take.heard c.take.heard;
         turns = (let t = two.turns in let o = one.turns in let d = deliveries-append xs ys in omega (arith, t, o, d));
         log = looked_on a.log b.log c.log one.log two.log;
-        knows = two.knows ∙ ap (λ (l : List Tx). l ++ known_in ys) one.knows ∙ append_assoc (knows a) (known_in xs) (known_in ys) ∙ ap (λ (l : List Tx). knows a ++ l) (sym (known-append xs ys));
+        knows = two.knows ∙ ap (λ (l : List Tx). l ++ known_in ys) one.knows ∙ append_assoc (knows a) (known_in xs) (known_in ys)
+            ∙ ap (λ (l : List Tx). knows a ++ l) (sym (known-append xs ys));
       }
 
 -- ---- before each delivery
 
 pub fed-append : (base known : List Tx) (xs ys : List Event) → FedEach base known xs → FedEach base (known ++ known_in xs) ys → FedEach base known (xs ++ ys)
 fed-append base known [] ys one two = subst (λ (l : List Tx). FedEach base l ys) (append-nil known) two
-fed-append base known (x ∷ xs) ys one two =
-    (one.0, fed-append base (known ++ carried_by x) xs ys one.1 (subst (λ (l : List Tx). FedEach base l ys) (sym (append_assoc known (carried_by x) (known_in xs))) two))
+fed-append base known (x ∷ xs) ys one two = (
+  one.0,
+  fed-append base (known ++ carried_by x) xs ys one.1 (subst (λ (l : List Tx). FedEach base l ys) (sym (append_assoc known (carried_by x) (known_in xs))) two),
+)
 
 pub fed_arrived : (base known list : List Tx) → FedEach base known (arrived_event list)
 fed_arrived base known [] = tt
@@ -95,7 +100,8 @@ pub fed_nothing : (base known : List Tx) → IsFed base known 0 []
 fed_nothing base known = record { quiet = refl; few = omega arith; fed = tt }
 
 -- a look at the log more
-pub fed_heard : (base known : List Tx) (most : ℕ) (events : List Event) (list : List Tx) → IsFed base known most events → IsFed base known most (events ++ arrived_event list)
+pub fed_heard : (base known : List Tx) (most : ℕ) (events : List Event) (list : List Tx) → IsFed base known most events
+    → IsFed base known most (events ++ arrived_event list)
 fed_heard base known most events list f =
     let q = arrived_quiet list in record {
       quiet = (let t = ticks-append events (arrived_event list) in let a = q.0 in let b = f.quiet in omega (arith, t, a, b));
@@ -104,7 +110,8 @@ fed_heard base known most events list f =
     }
 
 -- a delivery more, where the node knows all of the list
-pub fed_taken : (base known : List Tx) (most : ℕ) (events : List Event) (from : ℕ) (bytes : List ℕ) → IsFed base known most events → IsPrefix base (known ++ known_in events)
+pub fed_taken : (base known : List Tx) (most : ℕ) (events : List Event) (from : ℕ) (bytes : List ℕ) → IsFed base known most events
+    → IsPrefix base (known ++ known_in events)
     → IsFed base known (most + 1) (events ++ Deliver from bytes ∷ [])
 fed_taken base known most events from bytes f pre = record {
   quiet = (let t = ticks-append events (Deliver from bytes ∷ []) in let b = f.quiet in omega (arith, t, b));
@@ -150,7 +157,8 @@ module _ {S : Type 0} (fits : Check) (plan : Plan) (m : Meaning S) where
       }
 
   -- an event that changes nothing but its seat and what is sent
-  did_reported : (e : Event) (old mid : Working S) → Reported fits plan m e old mid → (deliveries (e ∷ []) ≡ 0) → (known_in (e ∷ []) ≡ []) → (letters_in (e ∷ []) ≡ []) → Did fits plan m (e ∷ []) old mid
+  did_reported : (e : Event) (old mid : Working S) → Reported fits plan m e old mid → (deliveries (e ∷ []) ≡ 0) → (known_in (e ∷ []) ≡ [])
+      → (letters_in (e ∷ []) ≡ []) → Did fits plan m (e ∷ []) old mid
   did_reported e old mid reported quiet silent unread = record {
     at = ap (λ (w : Working S). w.at) reported.rest;
     replica = reported.replica;
@@ -164,7 +172,8 @@ module _ {S : Type 0} (fits : Check) (plan : Plan) (m : Meaning S) where
   pub did_tick : (floor : ℕ) (old mid : Working S) → Reported fits plan m (Tick floor) old mid → Did fits plan m (Tick floor ∷ []) old mid
   did_tick floor old mid reported = did_reported (Tick floor) old mid reported refl refl refl
 
-  pub heard_some : (old mid : Working S) (log : Known Tx) (list : List Tx) (count : ℕ) → HasLooked old.log log → old.known ≤ length old.log.seen → list ≡ drop old.known log.seen → 0 < length list → count ≡ length list
+  pub heard_some : (old mid : Working S) (log : Known Tx) (list : List Tx) (count : ℕ) → HasLooked old.log log
+      → old.known ≤ length old.log.seen → list ≡ drop old.known log.seen → 0 < length list → count ≡ length list
       → Reported fits plan m (Arrived list) (record old { log = log }) mid
       → Heard fits plan m old (record mid { known = mid.known + count })
   heard_some old mid log [] count looked within is some counted reported = absurd (omega (arith, some))
@@ -174,7 +183,9 @@ module _ {S : Type 0} (fits : Check) (plan : Plan) (m : Meaning S) where
       let len : length (t ∷ ts) ≡ length (drop old.known log.seen) = ap length is in
       let known_is : mid.known ≡ old.known = ap (λ (w : Working S). w.known) reported.rest in
       let log_is : mid.log ≡ log = ap (λ (w : Working S). w.log) reported.rest in
-      let all : take (mid.known + count) mid.log.seen ≡ mid.log.seen = take_all (mid.known + count) mid.log.seen (let n = ap (λ (p : Known Tx). length p.seen) log_is in omega (arith, whole, len, known_is, n, counted)) in
+      let all : take (mid.known + count) mid.log.seen ≡ mid.log.seen =
+      take_all (mid.known + count) mid.log.seen
+      (let n = ap (λ (p : Known Tx). length p.seen) log_is in omega (arith, whole, len, known_is, n, counted)) in
       record {
         list = t ∷ ts;
         did = record {
@@ -205,11 +216,13 @@ module _ {S : Type 0} (fits : Check) (plan : Plan) (m : Meaning S) where
     pub count : w.turns ≡ first.turns + k
     pub news : w.take.heard ≡ first.take.heard
 
-  tick_silent : (tick : Option ℕ) (events : List Event) → (known_in (tick_of tick ++ events) ≡ known_in events) × (deliveries (tick_of tick ++ events) ≡ deliveries events)
+  tick_silent : (tick : Option ℕ) (events : List Event)
+      → (known_in (tick_of tick ++ events) ≡ known_in events) × (deliveries (tick_of tick ++ events) ≡ deliveries events)
   tick_silent None events = (refl, refl)
   tick_silent (Some floor) events = (refl, omega arith)
 
-  heard_on : (xs : List Event) (tick : Option ℕ) (first w h : Working S) → Did fits plan m (tick_of tick ++ xs) first w → (d : Heard fits plan m w h) → Did fits plan m (tick_of tick ++ (xs ++ arrived_event d.list)) first h
+  heard_on : (xs : List Event) (tick : Option ℕ) (first w h : Working S) → Did fits plan m (tick_of tick ++ xs) first w
+      → (d : Heard fits plan m w h) → Did fits plan m (tick_of tick ++ (xs ++ arrived_event d.list)) first h
   heard_on xs tick first w h did d =
       subst (λ (es : List Event). Did fits plan m es first h) (append_assoc (tick_of tick) xs (arrived_event d.list))
       (did_more fits plan m (tick_of tick ++ xs) (arrived_event d.list) first w h did d.did)
@@ -217,9 +230,11 @@ module _ {S : Type 0} (fits : Check) (plan : Plan) (m : Meaning S) where
   all_known : (es : List Event) (first w h : Working S) → Did fits plan m es first h → Heard fits plan m w h → IsPrefix first.log.seen (knows h)
   all_known es first w h did d = subst (IsPrefix first.log.seen) (sym d.all) did.log.later
 
-  pub begun : (tick : Option ℕ) (first w h : Working S) → Did fits plan m (tick_of tick) first w → w.take.heard ≡ first.take.heard → Heard fits plan m w h → SoFar tick 0 first h
+  pub begun : (tick : Option ℕ) (first w h : Working S) → Did fits plan m (tick_of tick) first w → w.take.heard ≡ first.take.heard
+      → Heard fits plan m w h → SoFar tick 0 first h
   begun tick first w h did same d =
-      let began : Did fits plan m (tick_of tick ++ []) first w = subst (λ (es : List Event). Did fits plan m es first w) (sym (append-nil (tick_of tick))) did in
+      let began : Did fits plan m (tick_of tick ++ []) first w =
+      subst (λ (es : List Event). Did fits plan m es first w) (sym (append-nil (tick_of tick))) did in
       let heard = heard_on [] tick first w h began d in record {
         events = arrived_event d.list;
         did = heard;
@@ -229,7 +244,8 @@ module _ {S : Type 0} (fits : Check) (plan : Plan) (m : Meaning S) where
         news = d.news ∙ same;
       }
 
-  pub went_on : (tick : Option ℕ) (k : ℕ) (first w n h : Working S) → SoFar tick k first w → Takes fits plan m true w n → Heard fits plan m n h → SoFar tick (k + 1) first h
+  pub went_on : (tick : Option ℕ) (k : ℕ) (first w n h : Working S) → SoFar tick k first w → Takes fits plan m true w n
+      → Heard fits plan m n h → SoFar tick (k + 1) first h
   went_on tick k first w n h s t d =
       let more : List Event = s.events ++ Deliver t.0 t.1 ∷ [] in
       let took : Did fits plan m (tick_of tick ++ more) first n =
@@ -242,6 +258,8 @@ module _ {S : Type 0} (fits : Check) (plan : Plan) (m : Meaning S) where
         fed = fed_heard first.log.seen (knows first) (k + 1) more d.list
             (fed_taken first.log.seen (knows first) k s.events t.0 t.1 s.fed (subst (IsPrefix first.log.seen) knows_is s.reported));
         reported = all_known (tick_of tick ++ (more ++ arrived_event d.list)) first n h heard d;
-        count = (let before = s.count in let one = t.2.turns in let last = d.did.turns in let quiet = (arrived_quiet d.list).1 in omega (arith, before, one, last, quiet));
+        count =
+            (let before = s.count in let one = t.2.turns in let last = d.did.turns in let quiet = (arrived_quiet d.list).1 in
+            omega (arith, before, one, last, quiet));
         news = d.news ∙ t.3 ∙ s.news;
       }

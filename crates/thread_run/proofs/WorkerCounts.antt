@@ -14,13 +14,16 @@ module _ {S : Type 0} (workers : List (Working S)) where
   pub counted_none : AreCounted 0 0 workers
   counted_none = record { sum = refl; memory = λ at w lt is. absurd (omega (arith, lt)); few = omega arith }
 
-  pub counted_more : (k turns more : ℕ) (d : Working S) → k < length workers → AreCounted k turns workers → more ≡ turns_by (get_or workers k d) → (get_or workers k d).failed ≡ false → HasFew 1000000 (get_or workers k d)
+  pub counted_more : (k turns more : ℕ) (d : Working S) → k < length workers → AreCounted k turns workers
+      → more ≡ turns_by (get_or workers k d) → (get_or workers k d).failed ≡ false → HasFew 1000000 (get_or workers k d)
       → AreCounted (k + 1) (turns + more) workers
   counted_more k turns more d lt so is memory few =
       let w : Working S = get_or workers k d in
       let most = few memory in
       let before = so.few in record {
-        sum = (let s = so.sum in let p = sum_by_push turns_by (take k workers) w in let t = ap (sum_by turns_by) (take_more workers k d lt) in omega (arith, s, p, t, is));
+        sum =
+            (let s = so.sum in let p = sum_by_push turns_by (take k workers) w in let t = ap (sum_by turns_by) (take_more workers k d lt) in
+            omega (arith, s, p, t, is));
         memory = λ at e within found. elim (cases_Bool (at == k)) [
           | inl yes_so ↦ (
               let same : at ≡ k = grind (arith, nat_tests) in
@@ -34,7 +37,8 @@ module _ {S : Type 0} (workers : List (Working S)) where
       }
 
 -- a fold over all workers is one over their places
-pub fold_places : {A X : Type 0} (g : A → X → A) (h : A → ℕ → A) (xs : List X) (k : ℕ) (a : A) → ((i : ℕ) (x : X) (b : A) → slice_get xs i ≡ Some x → g b x ≡ h b (k + i))
+pub fold_places : {A X : Type 0} (g : A → X → A) (h : A → ℕ → A) (xs : List X) (k : ℕ) (a : A)
+    → ((i : ℕ) (x : X) (b : A) → slice_get xs i ≡ Some x → g b x ≡ h b (k + i))
     → fold g a xs ≡ fold h a (range_with_len k (length xs))
 fold_places g h [] k a same = refl
 fold_places g h (x ∷ xs) k a same =

@@ -6,14 +6,16 @@ use Rattle.std.specs.List.{AllZip}
 
 module _ {A B : Type 0} (R : A → B → Type 0) where
   -- what holds at each place of two lists
-  pub zip_from : (xs : List A) (ys : List B) → length xs ≡ length ys → ((i : ℕ) (d : A) (e : B) → i < length xs → R (get_or xs i d) (get_or ys i e)) → AllZip R xs ys
+  pub zip_from : (xs : List A) (ys : List B) → length xs ≡ length ys
+      → ((i : ℕ) (d : A) (e : B) → i < length xs → R (get_or xs i d) (get_or ys i e)) → AllZip R xs ys
   zip_from [] [] l h = tt
   zip_from [] (y ∷ ys) l h = absurd (omega (arith, l))
   zip_from (x ∷ xs) [] l h = absurd (omega (arith, l))
   zip_from (x ∷ xs) (y ∷ ys) l h = (h 0 x y (omega arith), zip_from xs ys (omega (arith, l)) (λ i d e lt. h (suc i) d e (omega (arith, lt))))
 
 -- the same of two lists of one kind
-pub zip_of : {A : Type 0} (R : A → A → Type 0) (xs ys : List A) → length xs ≡ length ys → ((i : ℕ) (d : A) → i < length xs → R (get_or xs i d) (get_or ys i d)) → AllZip R xs ys
+pub zip_of : {A : Type 0} (R : A → A → Type 0) (xs ys : List A) → length xs ≡ length ys
+    → ((i : ℕ) (d : A) → i < length xs → R (get_or xs i d) (get_or ys i d)) → AllZip R xs ys
 zip_of R [] [] l h = tt
 zip_of R [] (y ∷ ys) l h = absurd (omega (arith, l))
 zip_of R (x ∷ xs) [] l h = absurd (omega (arith, l))

@@ -61,7 +61,8 @@ abbrev pub CanFinish : List Log → List Driver → List (Known Tx) → List (Li
 CanFinish [] ds os rows = ⊤
 CanFinish (l ∷ ls) [] os rows = ⊥
 CanFinish (l ∷ ls) (d ∷ ds) [] rows = ⊥
-CanFinish (l ∷ ls) (d ∷ ds) (o ∷ os) rows = AreAllPasses l (d.pass ∷ o ∷ column 0 rows) × All (λ row. 0 < length row) rows × CanFinish ls ds os (later_columns rows)
+CanFinish (l ∷ ls) (d ∷ ds) (o ∷ os) rows =
+    AreAllPasses l (d.pass ∷ o ∷ column 0 rows) × All (λ row. 0 < length row) rows × CanFinish ls ds os (later_columns rows)
 
 -- the lists of the logs
 abbrev pub AreFinished : List Driver → List (Known Tx) → List (List (Known Tx)) → List (List Tx) → Type 0
@@ -105,7 +106,8 @@ pub record CanMerge (plan : Plan) (logs : List Log) (k : ℕ) (d : Driver) (work
 
 -- the laws on logs whose places belong to some passes
 pub record MergeLaws : Type 0 where
-  pub merge : (log : List Tx) (claims : List Claim) → AreShared log claims → AreDistinct (all_of claims) → HoldEach log claims → IsMerge (map (λ c. c.list) claims) log
+  pub merge : (log : List Tx) (claims : List Claim) → AreShared log claims → AreDistinct (all_of claims) → HoldEach log claims
+      → IsMerge (map (λ c. c.list) claims) log
   pub room : (log : List Tx) (claims : List Claim) (k : ℕ) (c : Claim) (t : Tx) → AreShared log claims → length (all_of claims) ≤ 65536
       → slice_get claims k ≡ Some c → holds t c.list ≡ true → holds t log ≡ false → length log < 65536
   pub places : (log : List Tx) (claims : List Claim) (k : ℕ) (c : Claim) (t : Tx) → AreShared log claims → AreDistinct (all_of claims) → HoldEach log claims

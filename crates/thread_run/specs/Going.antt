@@ -129,7 +129,8 @@ pub record Shows {S : Type 0} (plan : Plan) (run : Run S) (shown : RunRecord) : 
   pub arrivals : AreMerges plan shown
   pub lists : (at : ℕ) → at < plan.setting.n → IsArrivals (get_or shown.arrivals at [])
   pub reported : (at : ℕ) → at < plan.setting.n → IsPrefix (seen_at run.workers.items at) (get_or shown.arrivals at [])
-  pub owned : (at : ℕ) (d : Driver) → at < plan.setting.n → slice_get run.drivers.items at ≡ Some d → IsOwned (arrivals_for plan.arrivals at) d.pass (get_or shown.arrivals at [])
+  pub owned : (at : ℕ) (d : Driver) → at < plan.setting.n → slice_get run.drivers.items at ≡ Some d
+      → IsOwned (arrivals_for plan.arrivals at) d.pass (get_or shown.arrivals at [])
   pub journals : (at : ℕ) → at < plan.setting.n → journal_in shown at ≡ journals_at run.workers.items at
   pub turns : shown.turns ≡ run.turns
   pub ticks : shown.ticks ≡ run.ticks

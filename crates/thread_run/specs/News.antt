@@ -26,7 +26,8 @@ informed senders w = record w { take = fold (heard_from w.at) w.take senders }
 
 -- everything that these workers had sent to the mailbox at a place was received
 abbrev pub HasAllOf : {S : Type 0} → List (Working S) → ℕ → List Envelope → Type 0
-HasAllOf {S = S} senders at taken = (k : ℕ) (s : Working S) (p : Sender) → slice_get senders k ≡ Some s → slice_get s.sends at ≡ Some p → IsPrefix p.sent (of p.from taken)
+HasAllOf {S = S} senders at taken = (k : ℕ) (s : Working S) (p : Sender) → slice_get senders k ≡ Some s → slice_get s.sends at ≡ Some p
+    → IsPrefix p.sent (of p.from taken)
 
 -- A worker delivered as many envelopes as it may, or received everything that these workers had sent to its mailbox,
 -- unless memory ran out.

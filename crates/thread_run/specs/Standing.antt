@@ -46,7 +46,8 @@ seen_at workers at = option_map_or seen_by (slice_get workers at) []
 
 -- each replica's worker stands at its place
 abbrev pub AllStand : {S : Type 0} → Check → Plan → Meaning S → (ℕ → Gives) → ℕ → List (Working S) → Type 0
-AllStand {S = S} fits plan m gives capacity workers = (at : ℕ) → at < plan.setting.n → (w : Working S) × (slice_get workers at ≡ Some w) × Stands fits plan m (gives at) capacity at w
+AllStand {S = S} fits plan m gives capacity workers = (at : ℕ) → at < plan.setting.n
+    → (w : Working S) × (slice_get workers at ≡ Some w) × Stands fits plan m (gives at) capacity at w
 
 -- no replica's worker was out of memory
 abbrev pub NoneFailed : {S : Type 0} → List (Working S) → Type 0

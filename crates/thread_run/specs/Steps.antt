@@ -79,7 +79,8 @@ pub record HasReported {S : Type 0} (plan : Plan) (old new : Run S) : Type 0 whe
 
 -- what the driver submitted to a log comes after all that the replica's worker had seen
 abbrev pub SubmitsAfter : {S : Type 0} → List (Working S) → List Driver → List Driver → Type 0
-SubmitsAfter workers old new = (at : ℕ) (e : Driver) → slice_get new at ≡ Some e → (d : Driver) × (slice_get old at ≡ Some d) × GoesFrom (length (seen_at workers at)) d.pass e.pass
+SubmitsAfter workers old new = (at : ℕ) (e : Driver) → slice_get new at ≡ Some e
+    → (d : Driver) × (slice_get old at ≡ Some d) × GoesFrom (length (seen_at workers at)) d.pass e.pass
 
 -- The driver was informed of all that the replicas' workers had seen, and then submitted what arrives by a count of
 -- turns. After that the worker of each replica was informed of all that the driver and the clients had submitted to its

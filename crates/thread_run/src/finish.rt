@@ -37,7 +37,8 @@ pub(crate) fn record_of<S: Sealer>(plan: &Plan, run: Run<S>) -> Result<RunRecord
     requires stopped { HasStopped plan.now run }
     requires rules { KeepsRules plan.now }
     ensures shows { IfOk result (λ shown. Shows plan.now run shown) }
-    ensures shown { IfOk result (λ shown. (fits : Check) (gives : ℕ → Gives) (capacity : ℕ) → AllStand fits plan.now (meaning S.replica S.gives) gives capacity run.workers.items
+    ensures shown { IfOk result (λ shown. (fits : Check) (gives : ℕ → Gives) (capacity : ℕ)
+        → AllStand fits plan.now (meaning S.replica S.gives) gives capacity run.workers.items
         → AreShown fits plan.now gives capacity shown (journals_at run.workers.items)) }
     ensures readable { IfOk result (λ shown. All (λ journal. AreReadable journal.entries) shown.journals) }
 {

@@ -36,7 +36,8 @@ pub(crate) fn round<S: Sealer, C: Checker, R: Threads + Wait + Sync>(
     requires of { All (OfClient world.now.logs.items) clients.old }
     requires few { most ≤ 32 }
     // What each replica's worker did, and what each client.
-    ensures worked { AllZip (Worked (C.meaning checker.now) plan.now (meaning S.replica S.gives) world.now.logs.items world.now.boxes.items tick) workers.old workers.new }
+    ensures worked { AllZip (Worked (C.meaning checker.now) plan.now (meaning S.replica S.gives) world.now.logs.items world.now.boxes.items tick)
+        workers.old workers.new }
     ensures few { AllZip (DeliversFew most) workers.old workers.new }
     ensures took { AllZip (Took most workers.old) workers.old workers.new }
     ensures went { AllZip (ClientWorked world.now.logs.items) clients.old clients.new }
@@ -62,14 +63,16 @@ fn turn_all<S: Sealer, C: Checker, R: Threads + Wait + Sync>(
     requires of { All (OfClient world.now.logs.items) clients.old }
     requires few { most ≤ 32 }
     // What each replica's worker did, and what each client.
-    ensures worked { AllZip (Worked (C.meaning checker.now) plan.now (meaning S.replica S.gives) world.now.logs.items world.now.boxes.items tick) workers.old workers.new }
+    ensures worked { AllZip (Worked (C.meaning checker.now) plan.now (meaning S.replica S.gives) world.now.logs.items world.now.boxes.items tick)
+        workers.old workers.new }
     ensures few { AllZip (DeliversFew most) workers.old workers.new }
     ensures drained { AllZip (Drained most) workers.old workers.new }
     ensures went { AllZip (ClientWorked world.now.logs.items) clients.old clients.new }
 {
     let mut replicas = ||
         requires { IsSync R.row × IsSync C.row × IsSend S.row × All (Ready world.now.logs.items world.now.boxes.items) workers.now × (most ≤ 32) }
-        ensures worked { AllZip (Worked (C.meaning checker.entry.now) plan.entry.now (meaning S.replica S.gives) world.entry.now.logs.items world.entry.now.boxes.items tick) workers.entry.now workers.exit.now }
+        ensures worked { AllZip (Worked (C.meaning checker.entry.now) plan.entry.now
+            (meaning S.replica S.gives) world.entry.now.logs.items world.entry.now.boxes.items tick) workers.entry.now workers.exit.now }
         ensures few { AllZip (DeliversFew most) workers.entry.now workers.exit.now }
         ensures drained { AllZip (Drained most) workers.entry.now workers.exit.now }
     { turn_replicas(rt, world, plan, checker, tick, most, workers) };
@@ -92,7 +95,8 @@ fn turn_replicas<S: Sealer, C: Checker, R: Threads + Wait + Sync>(
 )
     requires ready { All (Ready world.now.logs.items world.now.boxes.items) workers.old }
     requires few { most ≤ 32 }
-    ensures worked { AllZip (Worked (C.meaning checker.now) plan.now (meaning S.replica S.gives) world.now.logs.items world.now.boxes.items tick) workers.old workers.new }
+    ensures worked { AllZip (Worked (C.meaning checker.now) plan.now (meaning S.replica S.gives) world.now.logs.items world.now.boxes.items tick)
+        workers.old workers.new }
     ensures few { AllZip (DeliversFew most) workers.old workers.new }
     ensures drained { AllZip (Drained most) workers.old workers.new }
 {
@@ -105,7 +109,8 @@ fn turn_replicas<S: Sealer, C: Checker, R: Threads + Wait + Sync>(
             &|_, worker: &mut Worker<S>|
                 requires ready { Ready world.now.logs.items world.now.boxes.items worker.now }
                 requires few { most ≤ 32 }
-                ensures worked { Worked (C.meaning checker.entry.now) plan.entry.now (meaning S.replica S.gives) world.entry.now.logs.items world.entry.now.boxes.items tick worker.entry.now worker.exit.now }
+                ensures worked { Worked (C.meaning checker.entry.now) plan.entry.now
+                    (meaning S.replica S.gives) world.entry.now.logs.items world.entry.now.boxes.items tick worker.entry.now worker.exit.now }
                 ensures few { DeliversFew most worker.entry.now worker.exit.now }
                 ensures drained { Drained most worker.entry.now worker.exit.now }
             { worker.round(rt, world, plan, checker, tick, most) },

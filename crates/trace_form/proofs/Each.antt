@@ -26,8 +26,10 @@ pub record AreRead {A : Type 0} (text : List A → A → List ℕ) (Fits : List 
   pub spelled : bytes ≡ texts text before more ++ rest
   pub fit : AllFit Fits before more
 
-module _ {A : Type 0} (one : List A → List ℕ → Result (A × List ℕ) ℕ) (text : List A → A → List ℕ) (Fits : List A → A → Type 0) (exact : (before : List A) → IsExact (text before) (Fits before) (one before)) where
-  pub each_takes : (n : ℕ) (before : List A) (bytes : List ℕ) (ys : List A) (rest : List ℕ) → IsBytes bytes → each_at one n before bytes ≡ Ok (ys, rest) → AreRead text Fits n before ys bytes rest
+module _ {A : Type 0} (one : List A → List ℕ → Result (A × List ℕ) ℕ) (text : List A → A → List ℕ) (Fits : List A → A → Type 0)
+    (exact : (before : List A) → IsExact (text before) (Fits before) (one before)) where
+  pub each_takes : (n : ℕ) (before : List A) (bytes : List ℕ) (ys : List A) (rest : List ℕ) → IsBytes bytes
+      → each_at one n before bytes ≡ Ok (ys, rest) → AreRead text Fits n before ys bytes rest
   unfolding each_at
   each_takes zero before bytes ys rest fits e =
       let same = ok_is (before, bytes) (ys, rest) e in
@@ -52,12 +54,15 @@ module _ {A : Type 0} (one : List A → List ℕ → Result (A × List ℕ) ℕ)
         fit = (t.1, r.fit);
       }
 
-  pub each_again : (before more : List A) (rest : List ℕ) → AllFit Fits before more → each_at one (length more) before (texts text before more ++ rest) ≡ Ok (before ++ more, rest)
+  pub each_again : (before more : List A) (rest : List ℕ) → AllFit Fits before more
+      → each_at one (length more) before (texts text before more ++ rest) ≡ Ok (before ++ more, rest)
   unfolding each_at
   each_again before [] rest h = ap (λ (z : List A). Ok (z, rest)) (sym (append-nil before))
   each_again before (x ∷ more) rest h =
-      ap (λ (z : List ℕ). go_on (one before z) (λ y. each_at one (length more) (before ++ y ∷ []))) (append_assoc (text before x) (texts text (before ++ x ∷ []) more) rest)
-      ∙ ap (λ (z : Result (A × List ℕ) ℕ). go_on z (λ y. each_at one (length more) (before ++ y ∷ []))) ((exact before).again x (texts text (before ++ x ∷ []) more ++ rest) h.0)
+      ap (λ (z : List ℕ). go_on (one before z) (λ y. each_at one (length more) (before ++ y ∷ [])))
+      (append_assoc (text before x) (texts text (before ++ x ∷ []) more) rest)
+      ∙ ap (λ (z : Result (A × List ℕ) ℕ). go_on z (λ y. each_at one (length more) (before ++ y ∷ [])))
+      ((exact before).again x (texts text (before ++ x ∷ []) more ++ rest) h.0)
       ∙ each_again (before ++ x ∷ []) more rest h.1
       ∙ ap (λ (z : List A). Ok (z, rest)) (append_assoc before (x ∷ []) more)
 
@@ -84,11 +89,13 @@ fits_flat Fits before (x ∷ xs) h = (h.0, fits_flat Fits (before ++ x ∷ []) x
 
 -- ---- what is to fit by itself and beside those before
 
-pub fits_apart : {A : Type 0} (Own : A → Type 0) (New : List A → A → Type 0) (before xs : List A) → AllFit (λ b x. Own x × New b x) before xs → AllByRecursion Own xs × AllFit New before xs
+pub fits_apart : {A : Type 0} (Own : A → Type 0) (New : List A → A → Type 0) (before xs : List A)
+    → AllFit (λ b x. Own x × New b x) before xs → AllByRecursion Own xs × AllFit New before xs
 fits_apart Own New before [] h = (tt, tt)
 fits_apart Own New before (x ∷ xs) h = let r = fits_apart Own New (before ++ x ∷ []) xs h.1 in ((h.0.0, r.0), (h.0.1, r.1))
 
-pub fits_both : {A : Type 0} (Own : A → Type 0) (New : List A → A → Type 0) (before xs : List A) → AllByRecursion Own xs → AllFit New before xs → AllFit (λ b x. Own x × New b x) before xs
+pub fits_both : {A : Type 0} (Own : A → Type 0) (New : List A → A → Type 0) (before xs : List A) → AllByRecursion Own xs
+    → AllFit New before xs → AllFit (λ b x. Own x × New b x) before xs
 fits_both Own New before [] own new = tt
 fits_both Own New before (x ∷ xs) own new = ((own.0, new.0), fits_both Own New (before ++ x ∷ []) xs own.1 new.1)
 

@@ -5,7 +5,9 @@ use Rattle.wire_view.specs.Reading.{go_on, ◌>>=◌}
 use Rattle.trace_form.specs.Reading.{passing, checked}
 
 -- a reader, and then one that is exact only after what fits
-pub joined : {A B : Type 0} {text : A → List ℕ} {Fits : A → Type 0} {reads : List ℕ → Result (A × List ℕ) ℕ} {next : A → List ℕ → Result (B × List ℕ) ℕ} (part : B → A) (first : IsExact text Fits reads) (after_text : A → B → List ℕ) (FitsAfter : A → B → Type 0)
+pub joined : {A B : Type 0} {text : A → List ℕ} {Fits : A → Type 0} {reads : List ℕ → Result (A × List ℕ) ℕ}
+    {next : A → List ℕ → Result (B × List ℕ) ℕ} (part : B → A) (first : IsExact text Fits reads) (after_text : A → B → List ℕ)
+    (FitsAfter : A → B → Type 0)
     → ((a : A) → Fits a → IsExact (after_text a) (FitsAfter a) (next a)) → ((a : A) (b : B) → FitsAfter a b → part b ≡ a)
     → IsExact (λ b. text (part b) ++ after_text (part b) b) (λ b. Fits (part b) × FitsAfter (part b) b) (reads >>= next)
 joined {A} {B} {text} {Fits} {reads} {next} part first after_text FitsAfter others known = record {
@@ -26,7 +28,9 @@ joined {A} {B} {text} {Fits} {reads} {next} part first after_text FitsAfter othe
 }
 
 -- The spelling of what fits is known by another name.
-pub respelled : {A : Type 0} {text : A → List ℕ} {Fits : A → Type 0} {reads : List ℕ → Result (A × List ℕ) ℕ} (exact : IsExact text Fits reads) (other : A → List ℕ) → ((x : A) → Fits x → text x ≡ other x) → IsExact other Fits reads
+pub respelled : {A : Type 0}
+    {text : A → List ℕ} {Fits : A → Type 0} {reads : List ℕ → Result (A × List ℕ) ℕ} (exact : IsExact text Fits reads) (other : A → List ℕ)
+    → ((x : A) → Fits x → text x ≡ other x) → IsExact other Fits reads
 respelled {A} {text} {Fits} {reads} exact other same = record {
   takes = λ bytes x rest fits e. let t = exact.takes bytes x rest fits e in (t.0 ∙ ap (λ (y : List ℕ). y ++ rest) (same x t.1), t.1);
   again = λ x rest h. ap (λ (y : List ℕ). reads (y ++ rest)) (sym (same x h)) ∙ exact.again x rest h;
@@ -40,7 +44,8 @@ passed true left x y e = (refl, cc)
 passed false left x y e = absurd cc
 
 -- what is read is tested, whatever the place of the fault
-pub checked_exact : {A : Type 0} {text : A → List ℕ} {Fits : A → Type 0} {reads : List ℕ → Result (A × List ℕ) ℕ} (passes : A → Bool) (exact : IsExact text Fits reads)
+pub checked_exact : {A : Type 0} {text : A → List ℕ} {Fits : A → Type 0} {reads : List ℕ → Result (A × List ℕ) ℕ} (passes : A → Bool)
+    (exact : IsExact text Fits reads)
     → IsExact text (λ a. Fits a × (passes a ≡ true)) (checked passes reads)
 checked_exact {A} {text} {Fits} {reads} passes exact = record {
   takes = λ bytes x rest fits e.

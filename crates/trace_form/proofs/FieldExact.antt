@@ -69,7 +69,8 @@ named_is left None bytes y e = absurd cc
 named_is {A} left (Some x) bytes y e = let same = ok_is (x, bytes) y e in (ap (λ (z : A × List ℕ). Some z.0) same, ap (λ (z : A × List ℕ). z.1) same)
 
 -- a value by its code of one byte
-pub coded_exact : {A : Type 0} (code : A → ℕ) (name : ℕ → Option A) → ((a : A) → (code a < 256) × (name (code a) ≡ Some a)) → ((c : ℕ) (a : A) → name c ≡ Some a → code a ≡ c)
+pub coded_exact : {A : Type 0} (code : A → ℕ) (name : ℕ → Option A) → ((a : A) → (code a < 256) × (name (code a) ≡ Some a))
+    → ((c : ℕ) (a : A) → name c ≡ Some a → code a ≡ c)
     → IsExact (λ a. to_be_bytes w8 (code a)) (λ a. Unit {0}) (coded_at name)
 coded_exact {A} code name coded back = record {
   takes = λ bytes x rest fits e.

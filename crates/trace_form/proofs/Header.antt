@@ -65,7 +65,8 @@ from_valid : (s : Parameters) → IsValid s → is_valid s ≡ true
 from_valid s h =
     and_from _ _ (and_from _ _ (le-leb _ _ h.replicas.some) (le-leb _ _ h.replicas.few))
     (and_from _ _
-    (and_from _ _ (and_from _ _ (le-leb _ _ h.gamma.positive) (le-leb _ _ h.gamma.small)) (and_from _ _ (lt-ltb _ _ h.gamma.above_half) (le-leb _ _ h.gamma.at_most_one)))
+    (and_from _ _ (and_from _ _ (le-leb _ _ h.gamma.positive) (le-leb _ _ h.gamma.small))
+    (and_from _ _ (lt-ltb _ _ h.gamma.above_half) (le-leb _ _ h.gamma.at_most_one)))
     (lt-ltb _ _ h.resilience.enough))
 
 numbers_fit : (s : Parameters) → IsValid s → FitsNumbers s
@@ -101,7 +102,8 @@ faulty_exact : (s : Parameters) → IsValid s → IsExact faulty_spelling (FitFa
 unfolding faulty_at faulty_spelling step as_format
 faulty_exact s valid = restated
     (step length (short_exact s.f (numbers_fit s valid).f)
-    (λ count. as_format (each_exact (member_at s.n) (λ before. to_be_bytes w8) (λ before r. (r < s.n) × IsAbove before r) (member_exact s.n valid.replicas.few) count))
+    (λ count. as_format (each_exact (member_at s.n) (λ before. to_be_bytes w8) (λ before r. (r < s.n) × IsAbove before r)
+    (member_exact s.n valid.replicas.few) count))
     (λ count xs h. h.0))
     faulty_spelling (FitFaulty s.n s.f)
     (λ xs. ap (λ (z : List ℕ). to_be_bytes w8 (length xs) ++ z) (flat_texts (to_be_bytes w8) [] xs))
@@ -126,7 +128,8 @@ abbrev opening : Parameters → Span → ℕ → ℕ → List ℕ → Opening
 opening setting span turns ticks faulty = record { setting = setting; span = span; turns = turns; ticks = ticks; faulty = faulty }
 
 after_exact : (form : Form) (s : Parameters) → IsValid s
-    → IsExact after_setting (FitsAfter form s) (span_at form s.n >>= λ span. number_at w32 >>= λ turns. number_at w32 >>= λ ticks. faulty_at s >>= λ faulty. give (opening s span turns ticks faulty))
+    → IsExact after_setting (FitsAfter form s) (span_at form s.n >>= λ span. number_at w32 >>= λ turns. number_at w32 >>= λ ticks.
+    faulty_at s >>= λ faulty. give (opening s span turns ticks faulty))
 unfolding after_setting step known_value
 after_exact form s valid = restated
     (step (λ (o : Opening). o.span) (span_exact form s.n) (λ span.
@@ -151,4 +154,10 @@ opening_exact = restated
     opening_spelling FitsOpening
     (λ o. simp (append_assoc))
     (λ o h. record { valid = h.1.0; within = h.1.1.span.within; keys = h.1.1.span.keys; turns = h.1.1.turns; ticks = h.1.1.ticks; faulty = h.1.1.faulty })
-    (λ o h. (tt, (h.valid, record { setting = refl; span = record { form = refl; within = h.within; keys = h.keys }; turns = h.turns; ticks = h.ticks; faulty = h.faulty })))
+    (λ o h. (
+      tt,
+      (
+        h.valid,
+        record { setting = refl; span = record { form = refl; within = h.within; keys = h.keys }; turns = h.turns; ticks = h.ticks; faulty = h.faulty },
+      ),
+    ))

@@ -25,6 +25,7 @@ above_one_more least r xs above le = λ s.
     and_none true = refl
     and_none false = refl
 
-    by : (s : ℕ) → ((nat_le (r + 1) s ≡ true) × (r + 1 ≤ s)) ⊎ ((nat_le (r + 1) s ≡ false) × (s < r + 1)) → (nat_le least s && (nat_lt r s && true)) ≡ nat_le (r + 1) s
+    by : (s : ℕ) → ((nat_le (r + 1) s ≡ true) × (r + 1 ≤ s)) ⊎ ((nat_le (r + 1) s ≡ false) × (s < r + 1))
+        → (nat_le least s && (nat_lt r s && true)) ≡ nat_le (r + 1) s
     by s (inl h) = and_from _ _ (le-leb least s (omega (arith, le, h.1))) (and_from _ _ (lt-ltb r s (omega (arith, h.1))) refl) ∙ sym h.0
     by s (inr h) = ap (λ (b : Bool). nat_le least s && (b && true)) (le-ltb r s (omega (arith, h.1))) ∙ and_none (nat_le least s) ∙ sym h.0

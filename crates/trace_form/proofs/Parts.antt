@@ -62,10 +62,14 @@ named_back (suc (suc (suc (suc (suc (suc (suc (suc (suc (suc zero)))))))))) a is
 named_back (suc (suc (suc (suc (suc (suc (suc (suc (suc (suc (suc zero))))))))))) a is = let same : BadSeal ≡ a = cc in ap reason_code (sym same)
 named_back (suc (suc (suc (suc (suc (suc (suc (suc (suc (suc (suc (suc zero)))))))))))) a is = let same : BadCert ≡ a = cc in ap reason_code (sym same)
 named_back (suc (suc (suc (suc (suc (suc (suc (suc (suc (suc (suc (suc (suc zero))))))))))))) a is = let same : Orphan ≡ a = cc in ap reason_code (sym same)
-named_back (suc (suc (suc (suc (suc (suc (suc (suc (suc (suc (suc (suc (suc (suc zero)))))))))))))) a is = let same : Misfit ≡ a = cc in ap reason_code (sym same)
-named_back (suc (suc (suc (suc (suc (suc (suc (suc (suc (suc (suc (suc (suc (suc (suc zero))))))))))))))) a is = let same : Clash ≡ a = cc in ap reason_code (sym same)
-named_back (suc (suc (suc (suc (suc (suc (suc (suc (suc (suc (suc (suc (suc (suc (suc (suc zero)))))))))))))))) a is = let same : Unsafe ≡ a = cc in ap reason_code (sym same)
-named_back (suc (suc (suc (suc (suc (suc (suc (suc (suc (suc (suc (suc (suc (suc (suc (suc (suc zero))))))))))))))))) a is = let same : Repeat ≡ a = cc in ap reason_code (sym same)
+named_back (suc (suc (suc (suc (suc (suc (suc (suc (suc (suc (suc (suc (suc (suc zero)))))))))))))) a is = let same : Misfit ≡ a = cc in
+    ap reason_code (sym same)
+named_back (suc (suc (suc (suc (suc (suc (suc (suc (suc (suc (suc (suc (suc (suc (suc zero))))))))))))))) a is = let same : Clash ≡ a =
+    cc in ap reason_code (sym same)
+named_back (suc (suc (suc (suc (suc (suc (suc (suc (suc (suc (suc (suc (suc (suc (suc (suc zero)))))))))))))))) a is =
+    let same : Unsafe ≡ a = cc in ap reason_code (sym same)
+named_back (suc (suc (suc (suc (suc (suc (suc (suc (suc (suc (suc (suc (suc (suc (suc (suc (suc zero))))))))))))))))) a is =
+    let same : Repeat ≡ a = cc in ap reason_code (sym same)
 named_back (suc (suc (suc (suc (suc (suc (suc (suc (suc (suc (suc (suc (suc (suc (suc (suc (suc (suc c)))))))))))))))))) a is = absurd (cc)
 
 pub reason_exact : IsExact (λ a. to_be_bytes w8 (reason_code a)) (λ a. Unit {0}) reason_at
@@ -136,7 +140,8 @@ tick_after n bytes e rest fits is =
 from_exact : (n : ℕ) → n < 256 → IsExact (to_be_bytes w8) (λ r. r < n) (checked (λ r. nat_lt r n) byte_at)
 from_exact n small = refit (checked_exact (λ r. nat_lt r n) byte_exact) (λ r. r < n) (λ r h. ltb-true r n h.1) (λ r h. (omega (arith, h), lt-ltb r n h))
 
-delivered_after : (n : ℕ) → n < 256 → (bytes : List ℕ) (e : Event) (rest : List ℕ) → IsBytes bytes → delivered_at n bytes ≡ Ok (e, rest) → After n 2 bytes e rest
+delivered_after : (n : ℕ) → n < 256 → (bytes : List ℕ) (e : Event) (rest : List ℕ) → IsBytes bytes → delivered_at n bytes ≡ Ok (e, rest)
+    → After n 2 bytes e rest
 unfolding delivered_at
 delivered_after n small bytes e rest fits is =
     let w = went_on _ (λ from. bytes_at >>= λ b. give (Deliver from b)) (e, rest) is in
@@ -157,21 +162,28 @@ delivered_after n small bytes e rest fits is =
       fits = subst (FitsEvent n) event (t.1, u.1);
     }
 
-event_takes : (n : ℕ) → n < 256 → (bytes : List ℕ) (e : Event) (rest : List ℕ) → IsBytes bytes → event_at n bytes ≡ Ok (e, rest) → (bytes ≡ event_spelling e ++ rest) × FitsEvent n e
+event_takes : (n : ℕ) → n < 256 → (bytes : List ℕ) (e : Event) (rest : List ℕ) → IsBytes bytes → event_at n bytes ≡ Ok (e, rest)
+    → (bytes ≡ event_spelling e ++ rest) × FitsEvent n e
 unfolding event_at
 event_takes n small bytes e rest fits is =
     let w = went_on (byte_at bytes) (after_kind (length bytes) n) (e, rest) is in
     let kind = w.0.0 in
     let t = byte_exact.takes bytes kind w.0.1 fits w.1 in
     let following : IsBytes w.0.1 = IsBytes-after (to_be_bytes w8 kind) w.0.1 (subst IsBytes t.0 fits) in
-    let b = by (kind == 1) (kind == 2) (kind == 3) refl refl refl following w.2 in
-    (t.0 ∙ ap (λ (z : List ℕ). to_be_bytes w8 kind ++ z) b.bytes_are ∙ sym (append_assoc (to_be_bytes w8 kind) b.text rest) ∙ ap (λ (z : List ℕ). z ++ rest) (sym b.spelled), b.fits)
+    let b = by (kind == 1) (kind == 2) (kind == 3) refl refl refl following w.2 in (
+      t.0 ∙ ap (λ (z : List ℕ). to_be_bytes w8 kind ++ z) b.bytes_are ∙ sym (append_assoc (to_be_bytes w8 kind) b.text rest)
+          ∙ ap (λ (z : List ℕ). z ++ rest) (sym b.spelled),
+      b.fits,
+    )
   where
     by : {kind : ℕ} {more : List ℕ} (x y z : Bool) → (kind == 1) ≡ x → (kind == 2) ≡ y → (kind == 3) ≡ z → IsBytes more
         → cond x arrived_at (cond y (delivered_at n) (cond z tick_at (λ bs. Err (length bytes)))) more ≡ Ok (e, rest) → After n kind more e rest
-    by {kind} {more} true y z is1 is2 is3 following found = subst (λ (k : ℕ). After n k more e rest) (sym (eqb-true kind 1 is1)) (arrived_after n more e rest following found)
-    by {kind} {more} false true z is1 is2 is3 following found = subst (λ (k : ℕ). After n k more e rest) (sym (eqb-true kind 2 is2)) (delivered_after n small more e rest following found)
-    by {kind} {more} false false true is1 is2 is3 following found = subst (λ (k : ℕ). After n k more e rest) (sym (eqb-true kind 3 is3)) (tick_after n more e rest following found)
+    by {kind} {more} true y z is1 is2 is3 following found =
+        subst (λ (k : ℕ). After n k more e rest) (sym (eqb-true kind 1 is1)) (arrived_after n more e rest following found)
+    by {kind} {more} false true z is1 is2 is3 following found =
+        subst (λ (k : ℕ). After n k more e rest) (sym (eqb-true kind 2 is2)) (delivered_after n small more e rest following found)
+    by {kind} {more} false false true is1 is2 is3 following found =
+        subst (λ (k : ℕ). After n k more e rest) (sym (eqb-true kind 3 is3)) (tick_after n more e rest following found)
     by {kind} {more} false false false is1 is2 is3 following found = absurd cc
 
 event_again : (n : ℕ) → n < 256 → (e : Event) (rest : List ℕ) → FitsEvent n e → event_at n (event_spelling e ++ rest) ≡ Ok (e, rest)
@@ -200,14 +212,18 @@ entry_exact n small = restated
     (λ event e h. ap (λ (x : Entry). x.event) h.1.1.1))
     entry_spelling (FitsEntry n)
     (λ e.
-    ap (λ (y : List ℕ). event_spelling e.event ++ (to_be_bytes w8 (reason_code e.turned.reason) ++ (to_be_bytes w32 e.turned.kept ++ y))) (append-nil (statements_spelling e.turned.sealed))
-    ∙ sym (append_assoc (event_spelling e.event) (to_be_bytes w8 (reason_code e.turned.reason)) (to_be_bytes w32 e.turned.kept ++ statements_spelling e.turned.sealed))
-    ∙ sym (append_assoc (event_spelling e.event ++ to_be_bytes w8 (reason_code e.turned.reason)) (to_be_bytes w32 e.turned.kept) (statements_spelling e.turned.sealed)))
+    ap (λ (y : List ℕ). event_spelling e.event ++ (to_be_bytes w8 (reason_code e.turned.reason) ++ (to_be_bytes w32 e.turned.kept ++ y)))
+    (append-nil (statements_spelling e.turned.sealed))
+    ∙ sym (append_assoc (event_spelling e.event) (to_be_bytes w8 (reason_code e.turned.reason))
+    (to_be_bytes w32 e.turned.kept ++ statements_spelling e.turned.sealed))
+    ∙ sym (append_assoc (event_spelling e.event ++ to_be_bytes w8 (reason_code e.turned.reason)) (to_be_bytes w32 e.turned.kept)
+    (statements_spelling e.turned.sealed)))
     (λ e h. record { event = h.0; kept = h.1.1.0; few = h.1.1.1.0.0; short = h.1.1.1.0.1; bare = ap (λ (x : Entry). x.turned.sends) h.1.1.1.1 })
     (λ e h. (h.event, (tt, (h.kept, ((h.few, h.short), bare_is e h.bare)))))
   where
     bare_is : (e : Entry) → e.turned.sends ≡ [] → e ≡ entry e.event e.turned.reason e.turned.kept e.turned.sealed
-    bare_is e is = ap (λ (sends : List _). record { event = e.event; turned = record { reason = e.turned.reason; kept = e.turned.kept; sealed = e.turned.sealed; sends = sends } }) is
+    bare_is e is = ap (λ (sends : List _).
+        record { event = e.event; turned = record { reason = e.turned.reason; kept = e.turned.kept; sealed = e.turned.sealed; sends = sends } }) is
 
 -- ---- what is told of a replica
 

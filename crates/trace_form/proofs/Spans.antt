@@ -31,7 +31,8 @@ use Rattle.trace_form.proofs.Parts.{flat_exact}
 named_first : (first : List ℕ) (form : Form) → form_named first ≡ Some form → first ≡ magic form
 named_first first form is = by (bytes_eq first (magic Seeded)) (bytes_eq first (magic Keyed)) refl refl is
   where
-    by : (one two : Bool) → bytes_eq first (magic Seeded) ≡ one → bytes_eq first (magic Keyed) ≡ two → cond one (Some Seeded) (cond two (Some Keyed) None) ≡ Some form → first ≡ magic form
+    by : (one two : Bool) → bytes_eq first (magic Seeded) ≡ one → bytes_eq first (magic Keyed) ≡ two
+        → cond one (Some Seeded) (cond two (Some Keyed) None) ≡ Some form → first ≡ magic form
     by true two e1 e2 same = let form_is : Seeded ≡ form = cc in (bytes_eq-Decides first (magic Seeded)).0 e1 ∙ ap magic form_is
     by false true e1 e2 same = let form_is : Keyed ≡ form = cc in (bytes_eq-Decides first (magic Keyed)).0 e2 ∙ ap magic form_is
     by false false e1 e2 same = absurd cc
@@ -88,7 +89,8 @@ pub record FitsSpan (kind : Form) (n : ℕ) (s : Span) : Type 0 where
 
 few_views : (views : ℕ) (height : Height) → has_seals views height ≡ true → views < 2 ^ 32
 few_views views height is =
-    let room : 5 * views ≤ capacity_of height = leb-true (5 * views) (capacity_of height) (and_parts (nat_le 1 views) (nat_le (5 * views) (capacity_of height)) is).1 in
+    let room : 5 * views ≤ capacity_of height =
+    leb-true (5 * views) (capacity_of height) (and_parts (nat_le 1 views) (nat_le (5 * views) (capacity_of height)) is).1 in
     let most : capacity_of height ≤ 32768 = at_most height in
     omega (arith, room, most)
   where
@@ -141,7 +143,10 @@ seeded_exact n = respelled (refit (checked_exact (is_within n) any_seeded_exact)
     to s h = record { form = ap form_of h.0.keys; within = h.1; keys = subst (FitKeys n) (sym h.0.keys) h.0.seed }
 
     from : (s : Span) → FitsSpan Seeded n s → FitsSeeded s × (is_within n s ≡ true)
-    from s h = (record { views = few_views s.views s.height (and_parts _ _ h.within).0; seed = (own s.keys h.form h.keys).0; keys = (own s.keys h.form h.keys).1 }, h.within)
+    from s h = (
+      record { views = few_views s.views s.height (and_parts _ _ h.within).0; seed = (own s.keys h.form h.keys).0; keys = (own s.keys h.form h.keys).1 },
+      h.within,
+    )
       where
         own : (keys : Keys) → form_of keys ≡ Seeded → FitKeys n keys → (seed_in keys < 2 ^ 64) × (keys ≡ Seed (seed_in keys))
         own (Seed seed) is fit = (fit, refl)
@@ -211,7 +216,8 @@ keyed_exact n = respelled (refit (keyed_from_parts n) (FitsSpan Keyed n) to from
     from : (s : Span) → FitsSpan Keyed n s → FitsKeyed n s
     from s h = let own = parts s.keys h.form h.keys in record { seals = (and_parts _ _ h.within).0; number = own.0; each = own.1.0; keys = own.1.1 }
       where
-        parts : (keys : Keys) → form_of keys ≡ Keyed → FitKeys n keys → (length (keys_in keys) ≡ n) × (AllByRecursion (λ key. length key ≡ 60) (keys_in keys) × (keys ≡ Public (keys_in keys)))
+        parts : (keys : Keys) → form_of keys ≡ Keyed → FitKeys n keys
+            → (length (keys_in keys) ≡ n) × (AllByRecursion (λ key. length key ≡ 60) (keys_in keys) × (keys ≡ Public (keys_in keys)))
         parts (Seed seed) is fit = absurd cc
         parts (Public keys) is fit = (fit.0, (fit.1, refl))
 

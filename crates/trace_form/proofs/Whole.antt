@@ -43,7 +43,8 @@ module _ (n : ℕ) (faulty : List ℕ) where
   reported_or_not : n < 256 → (is : Bool) → IsExact (text_of is) (FitsAccountOf n is) (if is then give bare else account_at n)
   unfolding text_of
   reported_or_not small true = record {
-    takes = λ bytes a rest fits e. let same = ok_is (bare, bytes) (a, rest) e in (ap (λ (y : Account × List ℕ). y.1) same, sym (ap (λ (y : Account × List ℕ). y.0) same));
+    takes = λ bytes a rest fits e. let same = ok_is (bare, bytes) (a, rest) e in
+        (ap (λ (y : Account × List ℕ). y.1) same, sym (ap (λ (y : Account × List ℕ). y.0) same));
     again = λ a rest h. ap (λ (y : Account). Ok (y, rest)) (sym h);
   }
   reported_or_not small false = account_exact n small
@@ -99,7 +100,8 @@ abbrev contents : Opening → List (List Tx) → List Account → Contents
 contents opening arrivals accounts = record { opening = opening; arrivals = arrivals; accounts = accounts }
 
 after_exact : (o : Opening) → FitsOpening o
-    → IsExact (after_opening o) (FitsAfter o) (each_at (λ before. list_at true) o.setting.n [] >>= λ arrivals. each_at (next_account_at o.setting.n o.faulty) o.setting.n [] >>= λ accounts. give (contents o arrivals accounts))
+    → IsExact (after_opening o) (FitsAfter o) (each_at (λ before. list_at true) o.setting.n [] >>= λ arrivals.
+    each_at (next_account_at o.setting.n o.faulty) o.setting.n [] >>= λ accounts. give (contents o arrivals accounts))
 unfolding after_opening step known_value
 after_exact o fits =
     let small : o.setting.n < 256 = omega (arith, fits.valid.replicas.few) in
@@ -141,7 +143,8 @@ ended : (b : Bool) (left size : ℕ) (c : Contents) (trace : Trace) → placed s
 ended true left size c trace e = (refl, same_trace (trace_of c) trace e)
 ended false left size c trace e = absurd cc
 
-found_so : (bytes : List ℕ) (trace : Trace) → IsBytes bytes → (r : Result (Contents × List ℕ) ℕ) → contents_at bytes ≡ r → placed (length bytes) (whole r) ≡ Ok trace → Traces trace bytes
+found_so : (bytes : List ℕ) (trace : Trace) → IsBytes bytes → (r : Result (Contents × List ℕ) ℕ) → contents_at bytes ≡ r
+    → placed (length bytes) (whole r) ≡ Ok trace → Traces trace bytes
 found_so bytes trace fits (Err left) is e = absurd cc
 found_so bytes trace fits (Ok x) is e =
     let last = ended (length x.1 == 0) (length x.1) (length bytes) x.0 trace e in
@@ -185,7 +188,14 @@ zipped_back (x ∷ xs) = ap (λ (zs : List Account). x ∷ zs) (zipped_back xs)
 
 abbrev contents_in : Trace → Contents
 contents_in t = record {
-  opening = record { setting = t.run.setting; span = record { views = t.views; keys = t.keys; height = t.height }; turns = t.run.turns; ticks = t.run.ticks; faulty = t.run.faulty };
+  opening =
+      record {
+        setting = t.run.setting;
+        span = record { views = t.views; keys = t.keys; height = t.height };
+        turns = t.run.turns;
+        ticks = t.run.ticks;
+        faulty = t.run.faulty;
+      };
   arrivals = t.run.arrivals;
   accounts = zipped t.run.journals t.run.heads t.run.batches;
 }

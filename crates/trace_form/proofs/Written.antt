@@ -30,7 +30,8 @@ range_more text a n = ap (λ (k : ℕ). flat_map text (range_with_len a k)) add-
         ∙ ap (λ (k : ℕ). (text a ++ flat_map text (range_with_len (a + 1) n)) ++ text k) same
 
 -- what was written so far, and one text more
-pub goes_on : (text : ℕ → List ℕ) (k : ℕ) (start old new : List ℕ) → old ≡ start ++ flat_map text (range_with_len 0 k) → new ≡ old ++ text k → new ≡ start ++ flat_map text (range_with_len 0 (k + 1))
+pub goes_on : (text : ℕ → List ℕ) (k : ℕ) (start old new : List ℕ) → old ≡ start ++ flat_map text (range_with_len 0 k) → new ≡ old ++ text k
+    → new ≡ start ++ flat_map text (range_with_len 0 (k + 1))
 goes_on text k start old new so_far one =
     one ∙ ap (λ (z : List ℕ). z ++ text k) so_far ∙ append_assoc start (flat_map text (range_with_len 0 k)) (text k)
     ∙ ap (λ (z : List ℕ). start ++ z) (ap (λ (j : ℕ). flat_map text (range_with_len 0 k) ++ text j) zero_and ∙ sym (range_more text 0 k))
@@ -66,7 +67,8 @@ module _ (p : ℕ → Bool) (text : ℕ → List ℕ) where
   no_text r other = ap (λ (b : Bool). cond b (text r) []) other
 
   -- from a number on
-  members_in_turn : (top n a : ℕ) (xs : List ℕ) → a + n ≡ top → ((r : ℕ) → a ≤ r → p r ≡ is_among xs r) → RisesFrom (λ (x : ℕ). x) a xs → AllByRecursion (λ r. r < top) xs
+  members_in_turn : (top n a : ℕ) (xs : List ℕ) → a + n ≡ top → ((r : ℕ) → a ≤ r → p r ≡ is_among xs r) → RisesFrom (λ (x : ℕ). x) a xs
+      → AllByRecursion (λ r. r < top) xs
       → flat_map text_of (range_with_len a n) ≡ flat_map text xs
   members_in_turn top zero a [] size same rises below = refl
   members_in_turn top zero a (x ∷ xs) size same rises below = absurd (omega (arith, size, rises.0, below.0))
@@ -83,7 +85,8 @@ module _ (p : ℕ → Bool) (text : ℕ → List ℕ) where
             ap (λ (z : List ℕ). z ++ flat_map text_of (range_with_len (a + 1) n)) (text_is a member ∙ ap text (sym it.1))
             ∙ ap (λ (z : List ℕ). text x ++ z) (members_in_turn top n (a + 1) xs (omega (arith, size)) others following below.1)
         | inr other ↦
-            let none : p a ≡ false = same a (omega arith) ∙ ap (λ (b : Bool). b || is_among xs a) other.0 ∙ none_below (x + 1) xs a rises.1 (omega (arith, rises.0)) in
+            let none : p a ≡ false = same a (omega arith) ∙ ap (λ (b : Bool). b || is_among xs a) other.0
+            ∙ none_below (x + 1) xs a rises.1 (omega (arith, rises.0)) in
             let above : a + 1 ≤ x = omega (arith, rises.0, other.1) in
             ap (λ (z : List ℕ). z ++ flat_map text_of (range_with_len (a + 1) n)) (no_text a none)
             ∙ members_in_turn top n (a + 1) (x ∷ xs) (omega (arith, size)) (λ r more. same r (omega (arith, more))) (above, rises.1) below
@@ -103,17 +106,20 @@ each_below top [] h = tt
 each_below top (x ∷ xs) h = (h 0 x (omega arith), each_below top xs (λ k d within. h (suc k) d (omega (arith, within))))
 
 -- The members of a set, written in turn.
-pub members_text : (faulty : List ℕ) → IsStrictlyIncreasing faulty → All (λ r. r < 32) faulty → flat_map (member_text faulty) (range_with_len 0 32) ≡ flat_map (to_be_bytes w8) faulty
+pub members_text : (faulty : List ℕ) → IsStrictlyIncreasing faulty → All (λ r. r < 32) faulty
+    → flat_map (member_text faulty) (range_with_len 0 32) ≡ flat_map (to_be_bytes w8) faulty
 unfolding text_of
 members_text faulty ascending below =
-    members_in_turn (is_among faulty) (to_be_bytes w8) 32 32 0 faulty refl (λ r above. refl) (rises_from 0 faulty (λ some. omega arith) ascending) (each_below 32 faulty below)
+    members_in_turn (is_among faulty) (to_be_bytes w8) 32 32 0 faulty refl (λ r above. refl)
+    (rises_from 0 faulty (λ some. omega arith) ascending) (each_below 32 faulty below)
 
 -- ---- accounts
 
 -- sends are not spelled
 entries_alike : (es : List Entry) → entries_spelling (map without_sends es) ≡ entries_spelling es
 unfolding entries_spelling
-entries_alike es = ap (λ (k : ℕ). to_be_bytes w32 k ++ flat_map entry_spelling (map without_sends es)) (as_long es) ∙ ap (λ (z : List ℕ). to_be_bytes w32 (length es) ++ z) (texts_alike es)
+entries_alike es = ap (λ (k : ℕ). to_be_bytes w32 k ++ flat_map entry_spelling (map without_sends es)) (as_long es)
+    ∙ ap (λ (z : List ℕ). to_be_bytes w32 (length es) ++ z) (texts_alike es)
   where
     as_long : (es : List Entry) → length (map without_sends es) ≡ length es
     as_long [] = refl
@@ -128,10 +134,12 @@ reported_text true a = refl
 reported_text false a = ap (λ (z : List ℕ). z ++ (head_spelling a.head ++ batches_spelling a.batches)) (entries_alike a.journal.entries)
 
 -- The accounts, written in turn.
-pub accounts_text : (run : RunRecord) (n a : ℕ) → accounts_spelling run.faulty a (map (account_of run) (range_with_len a n)) ≡ flat_map (account_text run) (range_with_len a n)
+pub accounts_text : (run : RunRecord) (n a : ℕ)
+    → accounts_spelling run.faulty a (map (account_of run) (range_with_len a n)) ≡ flat_map (account_text run) (range_with_len a n)
 accounts_text run zero a = refl
 accounts_text run (suc n) a =
     let next : suc a ≡ a + 1 = omega arith in
-    ap (λ (z : List ℕ). z ++ accounts_spelling run.faulty (suc a) (map (account_of run) (range_with_len (a + 1) n))) (reported_text (is_among run.faulty a) (held_of run a))
+    ap (λ (z : List ℕ). z ++ accounts_spelling run.faulty (suc a) (map (account_of run) (range_with_len (a + 1) n)))
+    (reported_text (is_among run.faulty a) (held_of run a))
     ∙ ap (λ (z : List ℕ). account_text run a ++ z)
     (ap (λ (k : ℕ). accounts_spelling run.faulty k (map (account_of run) (range_with_len (a + 1) n))) next ∙ accounts_text run n (a + 1))

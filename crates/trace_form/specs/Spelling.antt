@@ -67,12 +67,14 @@ account_spelling a = entries_spelling a.journal.entries ++ (head_spelling a.head
 -- nothing is spelled of a faulty replica; the first of these has this number
 abbrev pub accounts_spelling : List ℕ → ℕ → List Account → List ℕ
 accounts_spelling faulty replica [] = []
-accounts_spelling faulty replica (a ∷ accounts) = (if is_among faulty replica then [] else account_spelling a) ++ accounts_spelling faulty (suc replica) accounts
+accounts_spelling faulty replica (a ∷ accounts) =
+    (if is_among faulty replica then [] else account_spelling a) ++ accounts_spelling faulty (suc replica) accounts
 
 -- the fields before the arrival lists
 unfoldable pub opening_spelling : Opening → List ℕ
 opening_spelling o =
-    magic (form_of o.span.keys) ++ setting_spelling o.setting ++ span_spelling o.span ++ to_be_bytes w32 o.turns ++ to_be_bytes w32 o.ticks ++ faulty_spelling o.faulty
+    magic (form_of o.span.keys) ++ setting_spelling o.setting ++ span_spelling o.span ++ to_be_bytes w32 o.turns ++ to_be_bytes w32 o.ticks
+    ++ faulty_spelling o.faulty
 
 unfoldable pub contents_spelling : Contents → List ℕ
 contents_spelling c = opening_spelling c.opening ++ flat_map list_spelling c.arrivals ++ accounts_spelling c.opening.faulty 0 c.accounts

@@ -139,7 +139,8 @@ fn put_lists(out: &mut Vec<u8>, lists: &[TxList]) -> Result<(), NoMemory>
 }
 
 fn put_accounts(out: &mut Vec<u8>, run: &RunRecord) -> Result<(), NoMemory>
-    ensures { OnOk result (out.new.items ≡ out.old.items ++ accounts_spelling run.now.faulty 0 (map (account_of run.now) (range_with_len 0 run.now.setting.n))) }
+    ensures { OnOk result
+        (out.new.items ≡ out.old.items ++ accounts_spelling run.now.faulty 0 (map (account_of run.now) (range_with_len 0 run.now.setting.n))) }
 {
     for replica in 0..run.setting.n() {
         put_account(out, run, replica)?;

@@ -28,15 +28,18 @@ all_inserted P keys (t ∷ more) all rest =
 
 all_joined : (P : Tx → Type 0) (lists : List (List Tx)) → All (All P) lists → All P (flat_map (λ list. list) lists)
 all_joined P [] all = All-nil P
-all_joined P (list ∷ lists) all = All-append P list (flat_map (λ l. l) lists) (All-head (All P) list lists all) (all_joined P lists (All-tail (All P) list lists all))
+all_joined P (list ∷ lists) all =
+    All-append P list (flat_map (λ l. l) lists) (All-head (All P) list lists all) (all_joined P lists (All-tail (All P) list lists all))
 
 all_kept : (P : Tx → Type 0) (s : Parameters) (lists : List (List Tx)) → All (All P) lists → All P (kept_by s lists)
 all_kept P s lists all =
     All-wanted_of P (map (leads_to_solid s lists (candidates_of s lists)) (range_with_len 0 (length (candidates_of s lists)))) (candidates_of s lists)
-    (All-filter (λ t. nat_le (threshold_of s) (listed lists t)) P (listed_in lists) (all_inserted P [] (flat_map (λ list. list) lists) (All-nil P) (all_joined P lists all)))
+    (All-filter (λ t. nat_le (threshold_of s) (listed lists t)) P (listed_in lists)
+    (all_inserted P [] (flat_map (λ list. list) lists) (All-nil P) (all_joined P lists all)))
 
 -- the vertices of the proposals of a chain
-all_proposed : (P : Tx → Type 0) (s : Parameters) (chain : List BlockLists) → All (λ b. All (All P) b.fresh) chain → All (λ g. All P g.vertices) (proposals s chain)
+all_proposed : (P : Tx → Type 0) (s : Parameters) (chain : List BlockLists) → All (λ b. All (All P) b.fresh) chain
+    → All (λ g. All P g.vertices) (proposals s chain)
 all_proposed P s [] all = All-nil (λ (g : Graph). All P g.vertices)
 all_proposed P s (b ∷ later) all =
     All-cons (λ (g : Graph). All P g.vertices) (graph_over s (kept_by s b.fresh) (b.fresh ∷ map (λ c. c.late) later)) (proposals s later)

@@ -49,7 +49,8 @@ short_orders (o ∷ orders) all =
 fit_orders : (orders : List SealedOrder) → AllByRecursion IsWritableOrder orders → All (All FitsTx) (map (λ sealed. sealed.order.fresh) orders)
 fit_orders [] all = All-nil (All FitsTx)
 fit_orders (o ∷ orders) all =
-    All-cons (All FitsTx) o.order.fresh (map (λ sealed. sealed.order.fresh) orders) (All-from_recursion FitsTx o.order.fresh all.0.fresh.each) (fit_orders orders all.1)
+    All-cons (All FitsTx) o.order.fresh (map (λ sealed. sealed.order.fresh) orders)
+    (All-from_recursion FitsTx o.order.fresh all.0.fresh.each) (fit_orders orders all.1)
 
 written : (b : Block) → IsWritableBlock b → IsWithin (named b)
 written b w =
@@ -69,7 +70,8 @@ shown_within (messages.Vote voted) w = tt
 shown_within (messages.Fetch block) w = tt
 shown_within (messages.Give block) w = written block w
 
-read_within : (r : Result MessageView WireFault) → ((m : MessageView) → r ≡ Ok m → IsWritable (message_of m)) → IfSome (block_of (shown_message (result_ok r))) IsWithin
+read_within : (r : Result MessageView WireFault) → ((m : MessageView) → r ≡ Ok m → IsWritable (message_of m))
+    → IfSome (block_of (shown_message (result_ok r))) IsWithin
 read_within (Ok m) can = shown_within m (can m refl)
 read_within (Err fault) can = tt
 
@@ -83,7 +85,8 @@ event_within (Tick floor) can = tt
 all_stored : (journal : List Entry) → All (λ e. IsReadable e.event) journal → All IsWithin (filter_map stored_by (map shown journal))
 all_stored [] all = All-nil IsWithin
 all_stored (e ∷ journal) all =
-    by (is_done e.turned.reason) (block_of (shown_message (message_in e.event))) (event_within e.event (All-head (λ (x : Entry). IsReadable x.event) e journal all))
+    by (is_done e.turned.reason) (block_of (shown_message (message_in e.event)))
+    (event_within e.event (All-head (λ (x : Entry). IsReadable x.event) e journal all))
     (all_stored journal (All-tail (λ (x : Entry). IsReadable x.event) e journal all))
   where
     by : (t : Bool) (o : Option Named) → IfSome o IsWithin → All IsWithin (filter_map stored_by (map shown journal))

@@ -71,7 +71,8 @@ module _ (P : Named → Type 0) where
       by false = is
 
   pub commit_is : (s : Parameters) (prefix : List Entry) → All P (stored prefix) → P (commit s prefix)
-  commit_is s prefix all = highest_is first_block (filter_map (head_of (stored prefix)) (taken s prefix)) (All-head P first_block _ all) (heads_all (stored prefix) (taken s prefix) all)
+  commit_is s prefix all = highest_is first_block (filter_map (head_of (stored prefix)) (taken s prefix)) (All-head P first_block _ all)
+      (heads_all (stored prefix) (taken s prefix) all)
 
   pub chain_all : (s : Parameters) (prefix : List Entry) → All P (stored prefix) → All P (committed_chain s prefix)
   chain_all s prefix all = after_all (commit s prefix).view (stored prefix) (commit s prefix) all (commit_is s prefix all)

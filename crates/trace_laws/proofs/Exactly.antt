@@ -39,10 +39,12 @@ use Rattle.trace_laws.proofs.Replicas.{SealedTwo}
 use Rattle.trace_laws.proofs.Steps.{Holds, IsHeld, ShortFloor, ends_held}
 
 -- the events of a journal of a node, in its entries
-all_from : (fits : Check) (gives : Gives) (s : State) (n : ℕ) (events : List Event) → All (IsFrom n) events → All (λ e. IsFrom n e.event) (journal_of fits gives s events)
+all_from : (fits : Check) (gives : Gives) (s : State) (n : ℕ) (events : List Event) → All (IsFrom n) events
+    → All (λ e. IsFrom n e.event) (journal_of fits gives s events)
 all_from fits gives s n [] all = All-nil (λ (e : Entry). IsFrom n e.event)
 all_from fits gives s n (e ∷ events) all =
-    All-cons (λ (x : Entry). IsFrom n x.event) (record { event = e; turned = (turn_of fits gives s e).reported }) (journal_of fits gives (turn_of fits gives s e).state events)
+    All-cons (λ (x : Entry). IsFrom n x.event) (record { event = e; turned = (turn_of fits gives s e).reported })
+    (journal_of fits gives (turn_of fits gives s e).state events)
     (All-head (IsFrom n) e events all) (all_from fits gives (turn_of fits gives s e).state n events (All-tail (IsFrom n) e events all))
 
 -- what three lists of facts imply for each entry
@@ -68,7 +70,8 @@ module _ (run_their_nodes : (fits : Check) (plan : Plan) (sealers : List Signer)
 
   journal_is : (r : ℕ) (x : Replica) → slice_get world.replicas r ≡ Some x → journal_in run r ≡ x.journal
   unfolding record_of
-  journal_is r x found = ap (λ (o : Option Journal). option_map_or (λ (j : Journal). j.entries) o []) (slice_get-map shown_journal world.replicas r ∙ ap (option_map shown_journal) found)
+  journal_is r x found = ap (λ (o : Option Journal). option_map_or (λ (j : Journal). j.entries) o [])
+      (slice_get-map shown_journal world.replicas r ∙ ap (option_map shown_journal) found)
 
   arrivals_are : (r : ℕ) (x : Replica) → slice_get world.replicas r ≡ Some x → arrivals_in run r ≡ x.feed.txs
   unfolding record_of
@@ -76,9 +79,11 @@ module _ (run_their_nodes : (fits : Check) (plan : Plan) (sealers : List Signer)
 
   view_is : (r : ℕ) (x : Replica) → slice_get world.replicas r ≡ Some x → view_in run r ≡ x.state.known.view
   unfolding record_of
-  view_is r x found = ap (λ (o : Option Head). option_map_or (λ (h : Head). h.view) o 0) (slice_get-map head_of world.replicas r ∙ ap (option_map head_of) found)
+  view_is r x found = ap (λ (o : Option Head). option_map_or (λ (h : Head). h.view) o 0)
+      (slice_get-map head_of world.replicas r ∙ ap (option_map head_of) found)
 
-  own_turns : (r : ℕ) (x : Replica) → is_among plan.faulty r ≡ false → slice_get world.replicas r ≡ Some x → IsHeld plan x → All (FitsTurn plan.setting.n) (journal_in run r)
+  own_turns : (r : ℕ) (x : Replica) → is_among plan.faulty r ≡ false → slice_get world.replicas r ≡ Some x → IsHeld plan x
+      → All (FitsTurn plan.setting.n) (journal_in run r)
   own_turns r x honest found h =
       let own : IsRun fits plan r (capacity_at sealers r) x = run_their_nodes fits plan sealers (steps_of plan) r x made found honest in
       let from : All (λ e. IsFrom plan.setting.n e.event) x.journal =

@@ -74,13 +74,15 @@ entry_fits n e heard turn short =
     let statements : List ℕ = statements_spelling e.turned.sealed in
     let each : List ℕ = flat_map bytes_spelling e.turned.sealed in
     let whole : length (((event ++ code) ++ kept) ++ statements) < 2 ^ 32 = short in
-    let first : length event < 2 ^ 32 = omega (arith, of_first event code, of_first (event ++ code) kept, of_first ((event ++ code) ++ kept) statements, whole) in
+    let first : length event < 2 ^ 32 =
+    omega (arith, of_first event code, of_first (event ++ code) kept, of_first ((event ++ code) ++ kept) statements, whole) in
     let sealed : length (to_be_bytes w8 (length e.turned.sealed) ++ each) < 2 ^ 32 = omega (arith, of_rest ((event ++ code) ++ kept) statements, whole) in
     record {
       event = event_short e.event n heard.event turn.from turn.floor first;
       kept = heard.kept;
       few = turn.few;
-      short = weaker (λ (s : List ℕ). length (bytes_spelling s) < 2 ^ 32) FitsBytes (λ s fits. omega (arith, of_rest (to_be_bytes w32 (length s)) s, fits)) e.turned.sealed
+      short = weaker (λ (s : List ℕ). length (bytes_spelling s) < 2 ^ 32) FitsBytes
+          (λ s fits. omega (arith, of_rest (to_be_bytes w32 (length s)) s, fits)) e.turned.sealed
           (each_short bytes_spelling (2 ^ 32) e.turned.sealed
           (omega (arith, of_rest (to_be_bytes w8 (length e.turned.sealed)) each, sealed)));
       bare = refl;
@@ -116,7 +118,13 @@ account_fits n a heard turns view commit batches short =
     let lists : List ℕ = flat_map list_spelling a.batches in
     let rest : List ℕ = head_spelling a.head ++ batches_spelling a.batches in
     let size : length texts < 2 ^ 32 = omega (arith, of_first (entries_spelling es) rest, of_rest (to_be_bytes w32 (length es)) texts, short) in
-    let others : length lists < 2 ^ 32 = omega (arith, of_rest (entries_spelling es) rest, of_rest (head_spelling a.head) (batches_spelling a.batches), of_rest (to_be_bytes w32 (length a.batches)) lists, short) in
+    let others : length lists < 2 ^ 32 = omega (
+      arith,
+      of_rest (entries_spelling es) rest,
+      of_rest (head_spelling a.head) (batches_spelling a.batches),
+      of_rest (to_be_bytes w32 (length a.batches)) lists,
+      short,
+    ) in
     record {
       few = omega (arith, no_more entry_spelling some_entry es, size);
       entries = entries_fit n a.journal.entries heard turns (each_short entry_spelling (2 ^ 32) es size);
@@ -128,7 +136,8 @@ account_fits n a heard turns view commit batches short =
 
 -- ---- a replica's part of a record
 
-held_entries : (journals : List Journal) (r : ℕ) → (slice_index_or journals r bare.journal).entries ≡ option_map_or (λ (j : Journal). j.entries) (slice_get journals r) []
+held_entries : (journals : List Journal) (r : ℕ)
+    → (slice_index_or journals r bare.journal).entries ≡ option_map_or (λ (j : Journal). j.entries) (slice_get journals r) []
 held_entries [] r = refl
 held_entries (j ∷ journals) zero = refl
 held_entries (j ∷ journals) (suc r) = held_entries journals r
@@ -140,12 +149,14 @@ held_head (h ∷ heads) (suc r) f none = held_head heads r f none
 
 -- ---- all replicas
 
-module _ (n : ℕ) (run : RunRecord) (fit : (r : ℕ) → r < n → is_among run.faulty r ≡ false → length (account_spelling (sendless (held_of run r))) < 2 ^ 32 → FitsAccount n (sendless (held_of run r))) where
+module _ (n : ℕ) (run : RunRecord) (fit : (r : ℕ) → r < n → is_among run.faulty r ≡ false
+    → length (account_spelling (sendless (held_of run r))) < 2 ^ 32 → FitsAccount n (sendless (held_of run r))) where
   one_fits : (b : Bool) (r : ℕ) → (b ≡ false → FitsAccount n (sendless (held_of run r))) → FitsAccountOf n b (cond b bare (sendless (held_of run r)))
   one_fits true r fits = refl
   one_fits false r fits = fits refl
 
-  one_text : (b : Bool) (a : Account) (more : List ℕ) → b ≡ false → length (cond b [] (account_spelling (cond b bare a)) ++ more) < 2 ^ 32 → length (account_spelling a) < 2 ^ 32
+  one_text : (b : Bool) (a : Account) (more : List ℕ) → b ≡ false → length (cond b [] (account_spelling (cond b bare a)) ++ more) < 2 ^ 32
+      → length (account_spelling a) < 2 ^ 32
   one_text true a more honest short = absurd (cc)
   one_text false a more honest short = omega (arith, of_first (account_spelling a) more, short)
 
@@ -159,7 +170,8 @@ module _ (n : ℕ) (run : RunRecord) (fit : (r : ℕ) → r < n → is_among run
       let rest : List ℕ = accounts_spelling run.faulty (suc r) others in
       let shorter : length (accounts_spelling run.faulty (r + 1) others) < 2 ^ 32 =
       subst (λ (k : ℕ). length (accounts_spelling run.faulty k others) < 2 ^ 32) next (omega (arith, of_rest own rest, short)) in (
-        one_fits (is_among run.faulty r) r (λ honest. fit r (omega (arith, below)) honest (one_text (is_among run.faulty r) (sendless (held_of run r)) rest honest short)),
+        one_fits (is_among run.faulty r) r
+            (λ honest. fit r (omega (arith, below)) honest (one_text (is_among run.faulty r) (sendless (held_of run r)) rest honest short)),
         subst (λ (k : ℕ). FitAccounts n run.faulty k others) (sym next) (accounts_fit count (r + 1) (omega (arith, below)) shorter),
       )
 
@@ -174,8 +186,10 @@ lists_fit (list ∷ lists) each = (
 
 module _ (graphs : (s : Parameters) (chain : List BlockLists) → All (λ b. AreFresh b.fresh) chain → All IsGraph (proposals s chain))
     (computed : (s : Parameters) (chain : List BlockLists) → finals (standing_for s chain) ≡ final_of s chain)
-    (fits : Check) (run : RunRecord) (span : Span) (lawful : IsLawfulRun fits run) (form : FitsForm run span) (short : length (trace_text run span) < 2 ^ 32) where
-  replica_fits : (r : ℕ) → r < run.setting.n → is_among run.faulty r ≡ false → length (account_spelling (sendless (held_of run r))) < 2 ^ 32 → FitsAccount run.setting.n (sendless (held_of run r))
+    (fits : Check) (run : RunRecord) (span : Span) (lawful : IsLawfulRun fits run) (form : FitsForm run span)
+    (short : length (trace_text run span) < 2 ^ 32) where
+  replica_fits : (r : ℕ) → r < run.setting.n → is_among run.faulty r ≡ false → length (account_spelling (sendless (held_of run r))) < 2 ^ 32
+      → FitsAccount run.setting.n (sendless (held_of run r))
   replica_fits r below correct fewer =
       let honest : IsHonest run r = record { below = below; correct = correct } in
       let obeys : Obeys fits run r = lawful.obeys r honest in

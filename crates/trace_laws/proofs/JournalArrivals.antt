@@ -63,7 +63,8 @@ heard : (by : Scale) (before : List Entry) (e : Entry) → IsArrivalList by.arri
 heard by before e arrivals knows = record {
   event = by_event e.event (part_fits by.arrivals (arrived_in before) (arrived_by e.event) (drop e.turned.kept by.arrivals) split arrivals);
   kept =
-      let size : length (take e.turned.kept by.arrivals ++ drop e.turned.kept by.arrivals) ≡ length by.arrivals = ap length (take-append-drop e.turned.kept by.arrivals) in
+      let size : length (take e.turned.kept by.arrivals ++ drop e.turned.kept by.arrivals) ≡ length by.arrivals =
+      ap length (take-append-drop e.turned.kept by.arrivals) in
       let same : length (arrived_in (up_to before e)) ≡ length (take e.turned.kept by.arrivals) = ap length knows.first in
       omega (arith, knows.all, same, of_first (take e.turned.kept by.arrivals) (drop e.turned.kept by.arrivals), size, arrivals.few);
 }
@@ -77,7 +78,8 @@ heard by before e arrivals knows = record {
     split =
         sym (take-append-drop e.turned.kept by.arrivals)
         ∙ ap (λ (txs : List Tx). txs ++ drop e.turned.kept by.arrivals)
-        (sym knows.first ∙ flat_map-append (λ (x : Entry). arrived_by x.event) before (e ∷ []) ∙ ap (λ (txs : List Tx). arrived_in before ++ txs) (append-nil (arrived_by e.event)))
+        (sym knows.first ∙ flat_map-append (λ (x : Entry). arrived_by x.event) before (e ∷ [])
+        ∙ ap (λ (txs : List Tx). arrived_in before ++ txs) (append-nil (arrived_by e.event)))
         ∙ append_assoc (arrived_in before) (arrived_by e.event) (drop e.turned.kept by.arrivals)
 
 -- each entry of a list that follows some
@@ -90,4 +92,5 @@ each_after P Q so journal before (e ∷ es) is each =
 
 pub all_heard : (by : Scale) (journal : List Entry) → IsArrivalList by.arrivals → IsLawful by journal → All IsHeard journal
 all_heard by journal arrivals lawful =
-    each_after IsHeard (λ before e. Knows by before e) (λ before e knows. heard by before e arrivals knows) journal [] journal refl (λ before e after is. lawful before e after is 1)
+    each_after IsHeard (λ before e. Knows by before e) (λ before e knows. heard by before e arrivals knows) journal [] journal refl
+    (λ before e after is. lawful before e after is 1)

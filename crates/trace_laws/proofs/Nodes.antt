@@ -66,7 +66,8 @@ votes gives s v block =
     let next : State = knowing s (ordering (v + 1) after) in
     let last : State = knowing s (record after { view = v }) in
     either (nat_lt v s.known.views) _ _
-    (either (is_spent next) _ _ (silent next Done) (either (is_spent (one_more_made next)) _ _ (silent (one_more_made next) Done) (record { few = omega arith })))
+    (either (is_spent next) _ _ (silent next Done)
+    (either (is_spent (one_more_made next)) _ _ (silent (one_more_made next) Done) (record { few = omega arith })))
     (either (is_spent last) _ _ (silent last Done) (record { few = omega arith }))
 
 module _ (fits : Check) (gives : Gives) (s : State) (from : ℕ) where
@@ -83,7 +84,8 @@ module _ (fits : Check) (gives : Gives) (s : State) (from : ℕ) where
   of_message (messages.Ask call) = ask_cases fits gives s from SealsTwo call still (λ p.
       let after : State = knowing s (ordering call.view (seen call.cert s.known)) in
       one gives after (order_spelling (order_of_view after.known call.view call.cert.block)) (from ∷ []))
-  of_message (messages.Order sealed) = order_cases fits gives s from SealsTwo sealed still (λ p q. if_block gives (knowing s (keeping s.known sealed)) (asked_block s.known sealed))
+  of_message (messages.Order sealed) = order_cases fits gives s from SealsTwo sealed still
+      (λ p q. if_block gives (knowing s (keeping s.known sealed)) (asked_block s.known sealed))
   of_message (messages.Propose proposed) = propose_cases fits gives s from SealsTwo proposed still
       (λ p q. votes gives (knowing s (taken proposed.block s.known)) proposed.block.view (block_digest proposed.block))
   of_message (messages.Vote vote) = vote_cases fits gives s from SealsTwo vote still

@@ -38,9 +38,11 @@ unmapped P f (x ∷ xs) all = All-cons (λ y. P (f y)) x xs (All-head P (f x) (m
 
 -- Each tick of a journal is the one with some number, and if each of these has a short floor, so has every entry.
 abbrev HasTicks : List Entry → Type 0
-HasTicks es = (k : ℕ) → k < ticks_in (events_of es) → (floor : ℕ) × (floor < 2 ^ 32) × (slice_get (events_of es) (length (before_tick k es)) ≡ Some (Tick floor))
+HasTicks es = (k : ℕ) → k < ticks_in (events_of es)
+    → (floor : ℕ) × (floor < 2 ^ 32) × (slice_get (events_of es) (length (before_tick k es)) ≡ Some (Tick floor))
 
-entry_short : (event : Event) (turned : Turned) (es : List Entry) → HasTicks (record { event = event; turned = turned } ∷ es) → HasShortFloor event × HasTicks es
+entry_short : (event : Event) (turned : Turned) (es : List Entry) → HasTicks (record { event = event; turned = turned } ∷ es)
+    → HasShortFloor event × HasTicks es
 entry_short (Arrived list) turned es ticks = (tt, rest)
   where
     rest : HasTicks es
@@ -74,7 +76,15 @@ module _ (fits : Check) (plan : Plan) (gives : ℕ → Gives) (capacity : ℕ) (
   after_bounded : (at : ℕ) (events : List Event) → IsBounded plan (after_events fits plan (gives at) capacity at events).replica
   unfolding after_events
   after_bounded at events = acts_bounded at (opening plan (gives at) capacity at) events (record {
-    bounds = record { ordered = omega arith; proposed = omega arith; view = omega arith; asked = omega arith; voted = omega arith; wide = omega (arith, rules.few_views) };
+    bounds =
+        record {
+          ordered = omega arith;
+          proposed = omega arith;
+          view = omega arith;
+          asked = omega arith;
+          voted = omega arith;
+          wide = omega (arith, rules.few_views);
+        };
     views = refl;
     few = All-nil SealedTwo;
   })
@@ -106,13 +116,15 @@ module _ (fits : Check) (plan : Plan) (gives : ℕ → Gives) (capacity : ℕ) (
 
     turns : (r : ℕ) → r < plan.setting.n → All (FitsTurn plan.setting.n) (journal_in run r)
     turns r below =
-        turns_fit plan.setting.n (journal_in run r) (unmapped (IsFrom plan.setting.n) (λ (e : Entry). e.event) (journal_in run r) (ran.senders r below)) (floors r below)
+        turns_fit plan.setting.n (journal_in run r)
+        (unmapped (IsFrom plan.setting.n) (λ (e : Entry). e.event) (journal_in run r) (ran.senders r below)) (floors r below)
         (subst (All SealedTwo) (sym (ran.turned r below)) (after_bounded r (events_of (journal_in run r))).few)
 
     view_fits : (r : ℕ) → r < plan.setting.n → view_in run r < 2 ^ 32
     view_fits r below =
         let b = after_bounded r (events_of (journal_in run r)) in
-        subst (λ (o : Option Head). option_map_or (λ (h : Head). h.view) o 0 < 2 ^ 32) (sym (ran.shown.heads r below)) (omega (arith, b.bounds.view, b.bounds.wide))
+        subst (λ (o : Option Head). option_map_or (λ (h : Head). h.view) o 0 < 2 ^ 32) (sym (ran.shown.heads r below))
+        (omega (arith, b.bounds.view, b.bounds.wide))
 
     opens : FitsOpening (contents_of run (span_of plan.views (Seed plan.seed) plan.height)).opening
     opens =

@@ -38,7 +38,8 @@ pub record IsHeld (plan : Plan) (r : Replica) : Type 0 where
   pub floors : All ShortFloor r.journal
 
 module _ (fits : Check) (plan : Plan) where
-  event_held : (at : ℕ) (r : Replica) (queue : List Envelope) (e : Event) → HasShortFloor e → IsHeld plan r → IsHeld plan (after_event fits plan at r queue e).replica
+  event_held : (at : ℕ) (r : Replica) (queue : List Envelope) (e : Event) → HasShortFloor e → IsHeld plan r
+      → IsHeld plan (after_event fits plan at r queue e).replica
   event_held at r queue e low h =
       let grows = journal_grows fits plan at r queue e in
       record {
@@ -114,7 +115,8 @@ module _ (fits : Check) (plan : Plan) where
 
   floor_low : (w : World) (floor : ℕ) (replicas : List ℕ) → Holds w → floor ≤ plan.views → floor_over plan w floor replicas ≤ plan.views
   floor_low w floor [] h low = low
-  floor_low w floor (at ∷ replicas) h low = floor_low w (if is_among plan.faulty at then floor else max (replica_view w at) floor) replicas h (by (is_among plan.faulty at))
+  floor_low w floor (at ∷ replicas) h low =
+      floor_low w (if is_among plan.faulty at then floor else max (replica_view w at) floor) replicas h (by (is_among plan.faulty at))
     where
       by : (t : Bool) → (if t then floor else max (replica_view w at) floor) ≤ plan.views
       by true = low
@@ -151,7 +153,8 @@ module _ (fits : Check) (plan : Plan) where
         goes v held true is = held
         goes v held false is = next_holds v v.queue (leb-false plan.turns v.turns is) held
 
-        ends : (t : Bool) → Holds (give_arrivals fits plan w) → Holds (if t then ended (give_arrivals fits plan w) else advanced fits plan (give_arrivals fits plan w)).world
+        ends : (t : Bool) → Holds (give_arrivals fits plan w)
+            → Holds (if t then ended (give_arrivals fits plan w) else advanced fits plan (give_arrivals fits plan w)).world
         ends true held = held
         ends false held = goes (give_arrivals fits plan w) held (nat_le plan.turns (give_arrivals fits plan w).turns) refl
 
@@ -159,7 +162,8 @@ module _ (fits : Check) (plan : Plan) where
     run_holds w zero h = h
     run_holds w (suc steps) h = by (step fits plan w).goes_on (run_holds (step fits plan w).world steps (step_holds w h))
       where
-        by : (t : Bool) → Holds (run_for fits plan (step fits plan w).world steps) → Holds (if t then run_for fits plan (step fits plan w).world steps else (step fits plan w).world)
+        by : (t : Bool) → Holds (run_for fits plan (step fits plan w).world steps)
+            → Holds (if t then run_for fits plan (step fits plan w).world steps else (step fits plan w).world)
         by true later = later
         by false later = step_holds w h
 
@@ -170,7 +174,15 @@ module _ (fits : Check) (plan : Plan) where
     unfolding feed_of
     fresh_held s below = record {
       bounded = record {
-        bounds = record { ordered = omega arith; proposed = omega arith; view = omega arith; asked = omega arith; voted = omega arith; wide = omega (arith, few_views) };
+        bounds =
+            record {
+              ordered = omega arith;
+              proposed = omega arith;
+              view = omega arith;
+              asked = omega arith;
+              voted = omega arith;
+              wide = omega (arith, few_views);
+            };
         views = refl;
         few = All-nil SealedTwo;
       };
@@ -178,7 +190,8 @@ module _ (fits : Check) (plan : Plan) where
       floors = All-nil ShortFloor;
     }
 
-    all_fresh : (sealers : List Signer) → All (λ s. s.replica < plan.setting.n) sealers → (at : ℕ) (r : Replica) → slice_get (map (fresh_replica plan) sealers) at ≡ Some r → IsHeld plan r
+    all_fresh : (sealers : List Signer) → All (λ s. s.replica < plan.setting.n) sealers → (at : ℕ) (r : Replica)
+        → slice_get (map (fresh_replica plan) sealers) at ≡ Some r → IsHeld plan r
     all_fresh [] below at r found = absurd (cc)
     all_fresh (s ∷ sealers) below zero r found =
         let same : fresh_replica plan s ≡ r = cc in

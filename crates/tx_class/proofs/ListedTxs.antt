@@ -45,7 +45,8 @@ unfolding IsStrictlySortedBy
 ascending_inserted [] k ascending = (tt, tt)
 ascending_inserted (x ∷ xs) k ascending = go (tx_cmp k x) refl (ascending_inserted xs k ascending.1)
   where
-    go : (o : Ordering) → tx_cmp k x ≡ o → IsStrictlySortedBy tx_cmp (insert_key tx_cmp xs k) → IsStrictlySortedBy tx_cmp (match_ordering o (k ∷ x ∷ xs) (x ∷ xs) (x ∷ insert_key tx_cmp xs k))
+    go : (o : Ordering) → tx_cmp k x ≡ o → IsStrictlySortedBy tx_cmp (insert_key tx_cmp xs k)
+        → IsStrictlySortedBy tx_cmp (match_ordering o (k ∷ x ∷ xs) (x ∷ xs) (x ∷ insert_key tx_cmp xs k))
     go Less is rest = ((is, all_below k x xs is ascending.0), ascending)
     go Equal is rest = ascending
     go Greater is rest = (all_inserted (λ y. tx_cmp x y ≡ Less) xs k ascending.0 (greater_turns k x is), rest)
@@ -64,7 +65,8 @@ holds_inserted : (ks : List Tx) (k t : Tx) → holds t (insert_key tx_cmp ks k) 
 holds_inserted [] k t = refl
 holds_inserted (x ∷ xs) k t = go (tx_cmp k x) refl (holds_inserted xs k t)
   where
-    go : (o : Ordering) → tx_cmp k x ≡ o → holds t (insert_key tx_cmp xs k) ≡ (tx_eq k t || holds t xs) → holds t (match_ordering o (k ∷ x ∷ xs) (x ∷ xs) (x ∷ insert_key tx_cmp xs k)) ≡ (tx_eq k t || (tx_eq x t || holds t xs))
+    go : (o : Ordering) → tx_cmp k x ≡ o → holds t (insert_key tx_cmp xs k) ≡ (tx_eq k t || holds t xs)
+        → holds t (match_ordering o (k ∷ x ∷ xs) (x ∷ xs) (x ∷ insert_key tx_cmp xs k)) ≡ (tx_eq k t || (tx_eq x t || holds t xs))
     go Less is rest = refl
     go Equal is rest = or_again (tx_eq x t) (holds t xs) ∙ ap (λ (y : Tx). tx_eq y t || (tx_eq x t || holds t xs)) (sym (tied_is k x is))
     go Greater is rest = ap (λ (b : Bool). tx_eq x t || b) rest ∙ or_swap (tx_eq x t) (tx_eq k t) (holds t xs)
@@ -128,7 +130,8 @@ one_list lists txs are =
 tx_eq_laws : IsEquivalence tx_eq
 tx_eq_laws = record {
   refl = λ x. (tx_eq_decides x x).1 refl;
-  symm = λ x y. both_ways (tx_eq x y) (tx_eq y x) (λ is. (tx_eq_decides y x).1 (sym ((tx_eq_decides x y).0 is))) (λ is. (tx_eq_decides x y).1 (sym ((tx_eq_decides y x).0 is)));
+  symm = λ x y. both_ways (tx_eq x y) (tx_eq y x) (λ is. (tx_eq_decides y x).1 (sym ((tx_eq_decides x y).0 is)))
+      (λ is. (tx_eq_decides x y).1 (sym ((tx_eq_decides y x).0 is)));
   congr = λ x y z is. ap (λ (w : Tx). tx_eq w z) ((tx_eq_decides x y).0 is);
 }
 
@@ -149,5 +152,6 @@ once_holds list sorted held t moved once =
     ap (holds t) once
     ∙ both_ways (holds t (dedup tx_eq sorted)) (holds t sorted)
     (λ kept. contains_holds sorted t (Contains-from_dedup tx_eq sorted t (holds_contains (dedup tx_eq sorted) t kept)))
-    (λ there. contains_holds (dedup tx_eq sorted) t (Contains-dedup tx_eq_laws (λ x y equal. (tx_eq_decides x y).0 equal) sorted t (holds_contains sorted t there)))
+    (λ there. contains_holds (dedup tx_eq sorted) t
+    (Contains-dedup tx_eq_laws (λ x y equal. (tx_eq_decides x y).0 equal) sorted t (holds_contains sorted t there)))
     ∙ sym (list_any-IsPermutation (λ x. tx_eq x t) list sorted moved)

@@ -81,7 +81,8 @@ searchable txs t ascending i j d low inside =
       | inl less ↦ index_rises (get_or txs i d) (get_or txs j d) t (Less-from_sorted tx_cmp txs i j d ascending less inside)
       | inr not_less ↦
           let same : i ≡ j = omega arith in
-          let equal : ordering_index (tx_cmp (get_or txs i d) t) ≡ ordering_index (tx_cmp (get_or txs j d) t) = ap (λ (k : ℕ). ordering_index (tx_cmp (get_or txs k d) t)) same in
+          let equal : ordering_index (tx_cmp (get_or txs i d) t) ≡ ordering_index (tx_cmp (get_or txs j d) t) =
+          ap (λ (k : ℕ). ordering_index (tx_cmp (get_or txs k d) t)) same in
           omega arith
     ]
 
@@ -97,7 +98,8 @@ found_at txs t at ascending inside tied =
     (λ short. (tx_eq_decides (get_or txs at any_tx) t).1 (tied_is (get_or txs at any_tx) t (tied any_tx)))
 
 -- where a search does not find t, t is absent
-pub found_nowhere : (txs : List Tx) (t : Tx) (at : ℕ) → AllWithin (λ y. tx_cmp y t ≡ Less) txs 0 at → AllWithin (λ y. tx_cmp y t ≡ Greater) txs at (length txs) → length txs ≤ place t txs
+pub found_nowhere : (txs : List Tx) (t : Tx) (at : ℕ) → AllWithin (λ y. tx_cmp y t ≡ Less) txs 0 at
+    → AllWithin (λ y. tx_cmp y t ≡ Greater) txs at (length txs) → length txs ≤ place t txs
 found_nowhere txs t at below above =
     elim (cases_lt (place t txs) (length txs)) [
       | inr past ↦ past

@@ -73,7 +73,8 @@ times_ascending (x ∷ xs) t ascending =
 
 -- one more list
 pub joined_more : (lists : List (List Tx)) (i : ℕ) (all held list : List Tx) (t : Tx) → i < length lists → list ≡ get_or lists i list
-    → times t all ≡ listed (take i lists) t → IsStrictlySortedBy tx_cmp held → holds t held ≡ holds t list → times t (all ++ held) ≡ listed (take (i + 1) lists) t
+    → times t all ≡ listed (take i lists) t → IsStrictlySortedBy tx_cmp held → holds t held ≡ holds t list
+    → times t (all ++ held) ≡ listed (take (i + 1) lists) t
 joined_more lists i all held list t inside here before ascending same =
     sum_by-append (λ y. point (tx_eq y t)) all held
     ∙ ap (λ (n : ℕ). n + times t held) before
@@ -81,7 +82,8 @@ joined_more lists i all held list t inside here before ascending same =
     ∙ sym (sum_by_more (λ (xs : List Tx). point (holds t xs)) lists i list inside)
 
 -- the number of elements that pass a test is the position that separates them from the others
-count_in : (p : Tx → Bool) (xs : List Tx) (i k : ℕ) → IsPartitionPoint (λ x. p x ≡ true) (λ x. p x ≡ false) xs i → k ≤ length xs → count_by p (take k xs) ≡ min k i
+count_in : (p : Tx → Bool) (xs : List Tx) (i k : ℕ) → IsPartitionPoint (λ x. p x ≡ true) (λ x. p x ≡ false) xs i → k ≤ length xs
+    → count_by p (take k xs) ≡ min k i
 count_in p xs i zero parts inside = omega arith
 count_in p xs i (suc k) parts inside =
     let rest : count_by p (take k xs) ≡ min k i = count_in p xs i k parts (omega arith) in
@@ -89,10 +91,12 @@ count_in p xs i (suc k) parts inside =
     let here : count_by p (take (suc k) xs) ≡ count_by p (take (k + 1) xs) = ap (λ (n : ℕ). count_by p (take n xs)) next in
     elim (cases_lt k i) [
       | inl before ↦
-          let more : count_by p (take (k + 1) xs) ≡ count_by p (take k xs) + 1 = count_by_more_yes p xs k any_tx (omega arith) (parts.0 k any_tx (omega arith) before) in
+          let more : count_by p (take (k + 1) xs) ≡ count_by p (take k xs) + 1 =
+          count_by_more_yes p xs k any_tx (omega arith) (parts.0 k any_tx (omega arith) before) in
           omega (arith, here, more, rest)
       | inr after ↦
-          let same : count_by p (take (k + 1) xs) ≡ count_by p (take k xs) = count_by_more_no p xs k any_tx (omega arith) (parts.1 k any_tx after (omega arith)) in
+          let same : count_by p (take (k + 1) xs) ≡ count_by p (take k xs) =
+          count_by_more_no p xs k any_tx (omega arith) (parts.1 k any_tx after (omega arith)) in
           omega (arith, here, same, rest)
     ]
 
@@ -120,10 +124,12 @@ le_before Greater Equal low is = absurd (omega (arith, low))
 le_before Greater Greater low is = is
 
 pub parted_lt : (xs : List Tx) (t : Tx) → IsSorted tx_cmp xs → IsPartitionedBy (λ x. is_lt (tx_cmp x t)) xs
-parted_lt xs t up i j d low inside = lt_before (tx_cmp (get_or xs i d) t) (tx_cmp (get_or xs j d) t) (searchable_from_sorted tx_cmp_total (λ x. x) xs t up i j d low inside)
+parted_lt xs t up i j d low inside =
+    lt_before (tx_cmp (get_or xs i d) t) (tx_cmp (get_or xs j d) t) (searchable_from_sorted tx_cmp_total (λ x. x) xs t up i j d low inside)
 
 pub parted_le : (xs : List Tx) (t : Tx) → IsSorted tx_cmp xs → IsPartitionedBy (λ x. is_le (tx_cmp x t)) xs
-parted_le xs t up i j d low inside = le_before (tx_cmp (get_or xs i d) t) (tx_cmp (get_or xs j d) t) (searchable_from_sorted tx_cmp_total (λ x. x) xs t up i j d low inside)
+parted_le xs t up i j d low inside =
+    le_before (tx_cmp (get_or xs i d) t) (tx_cmp (get_or xs j d) t) (searchable_from_sorted tx_cmp_total (λ x. x) xs t up i j d low inside)
 
 point_sum : (o : Ordering) → point (is_le o) ≡ point (is_lt o) + point (is_eq o)
 point_sum Less = refl
@@ -135,13 +141,16 @@ pub up_to_is : (xs : List Tx) (t : Tx) → count_by (λ x. is_le (tx_cmp x t)) x
 up_to_is [] t = refl
 up_to_is (x ∷ xs) t =
     let rest : count_by (λ y. is_le (tx_cmp y t)) xs ≡ count_by (λ y. is_lt (tx_cmp y t)) xs + times t xs = up_to_is xs t in
-    let le : count_by (λ y. is_le (tx_cmp y t)) (x ∷ xs) ≡ point (is_le (tx_cmp x t)) + count_by (λ y. is_le (tx_cmp y t)) xs = sum_by-cons (λ y. point (is_le (tx_cmp y t))) x xs in
-    let lt : count_by (λ y. is_lt (tx_cmp y t)) (x ∷ xs) ≡ point (is_lt (tx_cmp x t)) + count_by (λ y. is_lt (tx_cmp y t)) xs = sum_by-cons (λ y. point (is_lt (tx_cmp y t))) x xs in
+    let le : count_by (λ y. is_le (tx_cmp y t)) (x ∷ xs) ≡ point (is_le (tx_cmp x t)) + count_by (λ y. is_le (tx_cmp y t)) xs =
+    sum_by-cons (λ y. point (is_le (tx_cmp y t))) x xs in
+    let lt : count_by (λ y. is_lt (tx_cmp y t)) (x ∷ xs) ≡ point (is_lt (tx_cmp x t)) + count_by (λ y. is_lt (tx_cmp y t)) xs =
+    sum_by-cons (λ y. point (is_lt (tx_cmp y t))) x xs in
     let eq : times t (x ∷ xs) ≡ point (tx_eq x t) + times t xs = sum_by-cons (λ y. point (tx_eq y t)) x xs in
     let tie : point (tx_eq x t) ≡ point (is_eq (tx_cmp x t)) = ap point (tx_eq_ties x t) in
     omega (arith, rest, le, lt, eq, tie, point_sum (tx_cmp x t))
 
-pub longer : (lists : List (List Tx)) (i : ℕ) (all held list : List Tx) → i < length lists → list ≡ get_or lists i list → length all ≤ sum_by length (take i lists)
+pub longer : (lists : List (List Tx)) (i : ℕ) (all held list : List Tx) → i < length lists → list ≡ get_or lists i list
+    → length all ≤ sum_by length (take i lists)
     → length held ≤ length list → length (all ++ held) ≤ sum_by length (take (i + 1) lists)
 longer lists i all held list inside here before fits =
     let long : length list ≡ length (get_or lists i list) = ap length here in
@@ -159,10 +168,12 @@ entries_listed lists entries held counts ascending same =
       );
     })
 
-pub counts_are : (lists : List (List Tx)) (entries txs : List Tx) → ((t : Tx) → times t entries ≡ listed lists t) → map (λ t. times t entries) txs ≡ map (listed lists) txs
+pub counts_are : (lists : List (List Tx)) (entries txs : List Tx) → ((t : Tx) → times t entries ≡ listed lists t)
+    → map (λ t. times t entries) txs ≡ map (listed lists) txs
 counts_are lists entries [] counts = refl
 counts_are lists entries (t ∷ txs) counts = rw (counts t, counts_are lists entries txs counts) refl
 
-pub tally_is : (s : Parameters) (lists : List (List Tx)) (txs : List Tx) (counts : List ℕ) (threshold solid_at : ℕ) → txs ≡ listed_in lists → counts ≡ map (listed lists) txs
+pub tally_is : (s : Parameters) (lists : List (List Tx)) (txs : List Tx) (counts : List ℕ) (threshold solid_at : ℕ) → txs ≡ listed_in lists
+    → counts ≡ map (listed lists) txs
     → threshold ≡ threshold_of s → solid_at ≡ solid_of s → record { txs = txs; counts = counts; threshold = threshold; solid_at = solid_at } ≡ tally_of s lists
 tally_is s lists txs counts threshold solid_at all each low high = rw (low, high, each, all) refl

@@ -13,7 +13,8 @@ use Rattle.seq_base.specs.Lists.{AreFresh}
 use Rattle.seq_base.specs.Tx.{tx_cmp}
 use Rattle.tx_class.specs.Listed.{listed_in}
 
-short_joined : (lists : List (List Tx)) → AllByRecursion (λ (list : List Tx). length list ≤ 128) lists → length (flat_map (λ (list : List Tx). list) lists) ≤ 128 * length lists
+short_joined : (lists : List (List Tx)) → AllByRecursion (λ (list : List Tx). length list ≤ 128) lists
+    → length (flat_map (λ (list : List Tx). list) lists) ≤ 128 * length lists
 short_joined [] short = omega arith
 short_joined (list ∷ lists) short = omega (arith, short_joined lists short.1, length-append list (flat_map (λ (list : List Tx). list) lists), short.0)
 
@@ -25,7 +26,8 @@ one_more : (ks : List Tx) (k : Tx) → length (insert_key tx_cmp ks k) ≤ lengt
 one_more [] k = omega arith
 one_more (x ∷ xs) k = go (tx_cmp k x) (one_more xs k)
   where
-    go : (o : Ordering) → length (insert_key tx_cmp xs k) ≤ length xs + 1 → length (match_ordering o (k ∷ x ∷ xs) (x ∷ xs) (x ∷ insert_key tx_cmp xs k)) ≤ length (x ∷ xs) + 1
+    go : (o : Ordering) → length (insert_key tx_cmp xs k) ≤ length xs + 1
+        → length (match_ordering o (k ∷ x ∷ xs) (x ∷ xs) (x ∷ insert_key tx_cmp xs k)) ≤ length (x ∷ xs) + 1
     go Less rest = omega arith
     go Equal rest = omega arith
     go Greater rest = omega arith

@@ -62,7 +62,8 @@ opened_to Missing m is = absurd (cc)
 opened_to To Open is = λ same. (cc)
 opened_to To Done is = λ same. (cc)
 
-same_undone : (ms ns : List Mark) → length ns ≡ length ms → ((v : ℕ) → is_followed (get_or ns v Unseen) ≡ is_followed (get_or ms v Unseen)) → undone ns ≡ undone ms
+same_undone : (ms ns : List Mark) → length ns ≡ length ms
+    → ((v : ℕ) → is_followed (get_or ns v Unseen) ≡ is_followed (get_or ms v Unseen)) → undone ns ≡ undone ms
 same_undone [] [] long same = refl
 same_undone [] (n ∷ ns) long same = absurd (omega arith)
 same_undone (m ∷ ms) [] long same = absurd (omega arith)

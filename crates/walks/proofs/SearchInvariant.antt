@@ -33,18 +33,22 @@ pub record AreSearched (g : Graph) (rows : List (Vec Mark Global)) : Type 0 wher
   pub done : (u v : ℕ) (d : Vec Mark Global) → u < length rows → (get_or (get_or rows u d).items v Unseen ≡ Done) ↔ Walks (HasEdge g) u v
 
 -- the answers are those of the searches
-pub answers : (g : Graph) (rows : List (Vec Mark Global)) → AreSearched g rows → length rows ≡ length g.vertices → (u v : ℕ) → u < length g.vertices → v < length g.vertices
+pub answers : (g : Graph) (rows : List (Vec Mark Global)) → AreSearched g rows → length rows ≡ length g.vertices → (u v : ℕ)
+    → u < length g.vertices → v < length g.vertices
     → (reaches_in (map (λ (row : Vec Mark Global). map is_followed row.items) rows) u v ≡ true) ↔ Walks (HasEdge g) u v
 answers g rows searched long u v from to =
     elim (slice_get_cases rows u).1 [
       | inl here ↦
           let row : Vec Mark Global = here.0 in
           let read : get_or rows u row ≡ row = here.3 in
-          let columns : length row.items ≡ length g.vertices = subst (λ (r : Vec Mark Global). length r.items ≡ length g.vertices) read (searched.columns u row (omega arith)) in
+          let columns : length row.items ≡ length g.vertices =
+          subst (λ (r : Vec Mark Global). length r.items ≡ length g.vertices) read (searched.columns u row (omega arith)) in
           let walks : (get_or row.items v Unseen ≡ Done) ↔ Walks (HasEdge g) u v =
           subst (λ (r : Vec Mark Global). (get_or r.items v Unseen ≡ Done) ↔ Walks (HasEdge g) u v) read (searched.done u v row (omega arith)) in
           let answer : reaches_in (map (λ (row : Vec Mark Global). map is_followed row.items) rows) u v ≡ is_followed (get_or row.items v Unseen) =
-          ap (λ (answers : List Bool). get_or answers v false) (get_or-map (λ (row : Vec Mark Global). map is_followed row.items) rows u row [] (omega arith) ∙ ap (λ (r : Vec Mark Global). map is_followed r.items) read)
+          ap (λ (answers : List Bool). get_or answers v false)
+          (get_or-map (λ (row : Vec Mark Global). map is_followed row.items) rows u row [] (omega arith)
+          ∙ ap (λ (r : Vec Mark Global). map is_followed r.items) read)
           ∙ get_or-map is_followed row.items v Unseen false (omega arith) in
           ((λ yes'. walks.0 ((done_is (get_or row.items v Unseen)).0 (sym answer ∙ yes'))), (λ walk. answer ∙ ap is_followed (walks.1 walk)))
       | inr past ↦ absurd (omega (arith, past.0))

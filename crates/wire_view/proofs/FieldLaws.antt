@@ -31,7 +31,8 @@ guard_ok true fault x y e = absurd cc
 guard_ok false fault x y e = (refl, cc)
 
 -- what is read is tested
-pub tested : {A : Type 0} {text : A → List ℕ} {Fits : A → Type 0} {reads : List ℕ → Result (A × List ℕ) WireFault} (exact : IsExact text Fits reads) (bad : A → Bool) (fault : WireFault)
+pub tested : {A : Type 0} {text : A → List ℕ} {Fits : A → Type 0} {reads : List ℕ → Result (A × List ℕ) WireFault}
+    (exact : IsExact text Fits reads) (bad : A → Bool) (fault : WireFault)
     → IsExact text (λ a. Fits a × (bad a ≡ false)) (reads >>= λ a bytes. cond (bad a) (Err fault) (Ok (a, bytes)))
 tested {A} {text} {Fits} {reads} exact bad fault = record {
   takes = λ bytes x rest fits e.
@@ -86,15 +87,19 @@ wide64 = record {
 
 -- a number, whatever the fault of bytes that end inside it
 pub number_by : {E : Type 0} (fault : List ℕ → E) (w : Width) (limit : ℕ) → IsWide w limit
-    → IsExact (to_be_bytes w) (λ n. n < limit) (λ bytes. cond (ltb (length bytes) (byte_len w)) (Err (fault bytes)) (Ok (from_be_bytes w (take (byte_len w) bytes), drop (byte_len w) bytes)))
+    → IsExact (to_be_bytes w) (λ n. n < limit)
+    (λ bytes. cond (ltb (length bytes) (byte_len w)) (Err (fault bytes)) (Ok (from_be_bytes w (take (byte_len w) bytes), drop (byte_len w) bytes)))
 number_by fault w limit wide = record {
   takes = λ bytes n rest fits e.
       let g = guard_ok (ltb (length bytes) (byte_len w)) (fault bytes) (from_be_bytes w (take (byte_len w) bytes), drop (byte_len w) bytes) (n, rest) e in
       let long : byte_len w ≤ length bytes = ltb-false _ _ g.0 in
       let prefix = take (byte_len w) bytes in
-      let back : to_be_bytes w (from_be_bytes w prefix) ≡ prefix = wide.back prefix (omega (arith, length-take (byte_len w) bytes)) (IsBytes-take (byte_len w) bytes fits) in
-      subst (λ (y : ℕ × List ℕ). (bytes ≡ to_be_bytes w y.0 ++ y.1) × (y.0 < limit)) g.1
-      (sym (take-append-drop (byte_len w) bytes) ∙ ap (λ (t : List ℕ). t ++ drop (byte_len w) bytes) (sym back), wide.below prefix (IsBytes-take (byte_len w) bytes fits));
+      let back : to_be_bytes w (from_be_bytes w prefix) ≡ prefix =
+      wide.back prefix (omega (arith, length-take (byte_len w) bytes)) (IsBytes-take (byte_len w) bytes fits) in
+      subst (λ (y : ℕ × List ℕ). (bytes ≡ to_be_bytes w y.0 ++ y.1) × (y.0 < limit)) g.1 (
+        sym (take-append-drop (byte_len w) bytes) ∙ ap (λ (t : List ℕ). t ++ drop (byte_len w) bytes) (sym back),
+        wide.below prefix (IsBytes-take (byte_len w) bytes fits),
+      );
   again = λ n rest lt.
       let len = wide.len n in
       let long : ltb (length (to_be_bytes w n ++ rest)) (byte_len w) ≡ false = le-ltb _ _ (omega (arith, length-append (to_be_bytes w n) rest)) in
@@ -105,7 +110,8 @@ pub number_exact : (w : Width) (limit : ℕ) → IsWide w limit → IsExact (to_
 number_exact = number_by (λ bytes. Short)
 
 -- a piece of a given size, in the same way
-pub piece_taken : {E : Type 0} (fault : E) (size : ℕ) (bytes piece rest : List ℕ) → cond {A = Result (List ℕ × List ℕ) E} (ltb (length bytes) size) (Err fault) (Ok (take size bytes, drop size bytes)) ≡ Ok (piece, rest)
+pub piece_taken : {E : Type 0} (fault : E) (size : ℕ) (bytes piece rest : List ℕ)
+    → cond {A = Result (List ℕ × List ℕ) E} (ltb (length bytes) size) (Err fault) (Ok (take size bytes, drop size bytes)) ≡ Ok (piece, rest)
     → (bytes ≡ piece ++ rest) × (length piece ≡ size)
 piece_taken fault size bytes piece rest e =
     let g = guard_ok (ltb (length bytes) size) fault (take size bytes, drop size bytes) (piece, rest) e in
@@ -114,7 +120,8 @@ piece_taken fault size bytes piece rest e =
     subst (λ (y : List ℕ × List ℕ). (bytes ≡ y.0 ++ y.1) × (length y.0 ≡ size)) g.1 (sym (take-append-drop size bytes), len)
 
 pub piece_by : {E : Type 0} (fault : List ℕ → E) (size : ℕ)
-    → IsExact (λ bytes. bytes) (λ bytes. length bytes ≡ size) (λ bytes. cond (ltb (length bytes) size) (Err (fault bytes)) (Ok (take size bytes, drop size bytes)))
+    → IsExact (λ bytes. bytes) (λ bytes. length bytes ≡ size)
+    (λ bytes. cond (ltb (length bytes) size) (Err (fault bytes)) (Ok (take size bytes, drop size bytes)))
 piece_by fault size = record {
   takes = λ bytes x rest fits e. piece_taken (fault bytes) size bytes x rest e;
   again = λ x rest len.
@@ -133,11 +140,13 @@ short_count_exact most lt = refit (tested byte_exact (λ n. ltb most n) Count) (
 
 pub long_count_exact : (most : ℕ) → most < 2 ^ 16 → IsExact (to_be_bytes w16) (λ n. n ≤ most) (long_count_at most)
 unfolding long_count_at
-long_count_exact most lt = refit (tested (number_exact w16 (2 ^ 16) wide16) (λ n. ltb most n) Count) (λ n. n ≤ most) (λ n h. ltb-false _ _ h.1) (λ n h. (omega arith, le-ltb _ _ h))
+long_count_exact most lt = refit (tested (number_exact w16 (2 ^ 16) wide16) (λ n. ltb most n) Count) (λ n. n ≤ most)
+    (λ n h. ltb-false _ _ h.1) (λ n h. (omega arith, le-ltb _ _ h))
 
 pub replica_exact : (least : ℕ) → IsExact (to_be_bytes w8) (λ r. (least ≤ r) × (r < 256)) (replica_at least)
 unfolding replica_at
-replica_exact least = refit (tested byte_exact (λ r. ltb r least) Shape) (λ r. (least ≤ r) × (r < 256)) (λ r h. (ltb-false _ _ h.1, h.0)) (λ r h. (h.1, le-ltb _ _ h.0))
+replica_exact least = refit (tested byte_exact (λ r. ltb r least) Shape) (λ r. (least ≤ r) × (r < 256)) (λ r h. (ltb-false _ _ h.1, h.0))
+    (λ r h. (h.1, le-ltb _ _ h.0))
 
 pub digest_exact : IsExact (λ (d : Digest). d.0) IsWritableDigest digest_at
 unfolding digest_at step known_value

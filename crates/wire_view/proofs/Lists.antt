@@ -33,7 +33,8 @@ pub ascending_takes : {A : Type 0} (one : ℕ → List ℕ → Result (A × List
     → ascending_at one key n least bytes ≡ Ok (xs, rest) → (bytes ≡ flat_map text xs ++ rest) × IsAscending key Fits n least xs
 unfolding ascending_at
 ascending_takes {A} one key text Fits exact zero least bytes xs rest fits e =
-    subst (λ (y : List A × List ℕ). (bytes ≡ flat_map text y.0 ++ y.1) × IsAscending key Fits zero least y.0) (ok_is ([], bytes) (xs, rest) e) (refl, record { count = refl; ascending = tt; each = tt })
+    subst (λ (y : List A × List ℕ). (bytes ≡ flat_map text y.0 ++ y.1) × IsAscending key Fits zero least y.0)
+    (ok_is ([], bytes) (xs, rest) e) (refl, record { count = refl; ascending = tt; each = tt })
 ascending_takes {A} one key text Fits exact (suc n) least bytes xs rest fits e =
     let w = went_on (one least bytes) (λ first. ascending_at one key n (key first + 1) >>= λ others. give (first ∷ others)) (xs, rest) e in
     let x = w.0.0 in
@@ -41,7 +42,8 @@ ascending_takes {A} one key text Fits exact (suc n) least bytes xs rest fits e =
     let following : IsBytes w.0.1 = IsBytes-after (text x) w.0.1 (subst IsBytes t.0 fits) in
     let v = went_on (ascending_at one key n (key x + 1) w.0.1) (λ others. give (x ∷ others)) (xs, rest) w.2 in
     let u = ascending_takes one key text Fits exact n (key x + 1) w.0.1 v.0.0 v.0.1 following v.1 in
-    let parts : bytes ≡ (text x ++ flat_map text v.0.0) ++ v.0.1 = t.0 ∙ ap (λ (y : List ℕ). text x ++ y) u.0 ∙ sym (append_assoc (text x) (flat_map text v.0.0) v.0.1) in
+    let parts : bytes ≡ (text x ++ flat_map text v.0.0) ++ v.0.1 =
+    t.0 ∙ ap (λ (y : List ℕ). text x ++ y) u.0 ∙ sym (append_assoc (text x) (flat_map text v.0.0) v.0.1) in
     let count : length (x ∷ v.0.0) ≡ suc n = omega (arith, u.1.count) in
     subst (λ (y : List A × List ℕ). (bytes ≡ flat_map text y.0 ++ y.1) × IsAscending key Fits (suc n) least y.0) (ok_is (x ∷ v.0.0, v.0.1) (xs, rest) v.2)
     (parts, record { count = count; ascending = (t.1.0, u.1.ascending); each = (t.1.1, u.1.each) })
@@ -56,17 +58,23 @@ ascending_again one key text Fits exact (suc n) least [] rest h = absurd (omega 
 ascending_again {A} one key text Fits exact (suc n) least (x ∷ xs) rest h =
     let count : length xs ≡ n = omega (arith, h.count) in
     ap (λ (y : List ℕ). ascending_at one key (suc n) least y) (append_assoc (text x) (flat_map text xs) rest)
-    ∙ ap (λ (y : Result (A × List ℕ) WireFault). go_on y (λ first. ascending_at one key n (key first + 1) >>= λ others. give (first ∷ others))) ((exact least).again x (flat_map text xs ++ rest) (h.ascending.0, h.each.0))
-    ∙ ap (λ (y : Result (List A × List ℕ) WireFault). go_on y (λ others. give (x ∷ others))) (ascending_again one key text Fits exact n (key x + 1) xs rest (record { count = count; ascending = h.ascending.1; each = h.each.1 }))
+    ∙ ap (λ (y : Result (A × List ℕ) WireFault). go_on y (λ first. ascending_at one key n (key first + 1) >>= λ others. give (first ∷ others)))
+    ((exact least).again x (flat_map text xs ++ rest) (h.ascending.0, h.each.0))
+    ∙ ap (λ (y : Result (List A × List ℕ) WireFault). go_on y (λ others. give (x ∷ others)))
+    (ascending_again one key text Fits exact n (key x + 1) xs rest (record { count = count; ascending = h.ascending.1; each = h.each.1 }))
 
 pub ascending_exact : {A : Type 0} (one : ℕ → List ℕ → Result (A × List ℕ) WireFault) (key : A → ℕ) (text : A → List ℕ) (Fits : A → Type 0)
-    → ((least : ℕ) → IsExact text (λ a. (least ≤ key a) × Fits a) (one least)) → (n least : ℕ) → IsExact (flat_map text) (IsAscending key Fits n least) (ascending_at one key n least)
-ascending_exact one key text Fits exact n least = record { takes = ascending_takes one key text Fits exact n least; again = ascending_again one key text Fits exact n least }
+    → ((least : ℕ) → IsExact text (λ a. (least ≤ key a) × Fits a) (one least)) → (n least : ℕ)
+    → IsExact (flat_map text) (IsAscending key Fits n least) (ascending_at one key n least)
+ascending_exact one key text Fits exact n least =
+    record { takes = ascending_takes one key text Fits exact n least; again = ascending_again one key text Fits exact n least }
 
 -- ---- transactions
 
-spelled_by : (a b c : ℕ) (x y z : List ℕ) → to_be_bytes w32 a ≡ x → to_be_bytes w32 b ≡ y → to_be_bytes w64 c ≡ z → tx_spelling (record { client = a; number = b; payload = c }) ≡ (x ++ y) ++ z
-spelled_by a b c x y z e f g = ap (λ (t : List ℕ). (t ++ to_be_bytes w32 b) ++ to_be_bytes w64 c) e ∙ ap (λ (t : List ℕ). (x ++ t) ++ to_be_bytes w64 c) f ∙ ap (λ (t : List ℕ). (x ++ y) ++ t) g
+spelled_by : (a b c : ℕ) (x y z : List ℕ) → to_be_bytes w32 a ≡ x → to_be_bytes w32 b ≡ y → to_be_bytes w64 c ≡ z
+    → tx_spelling (record { client = a; number = b; payload = c }) ≡ (x ++ y) ++ z
+spelled_by a b c x y z e f g = ap (λ (t : List ℕ). (t ++ to_be_bytes w32 b) ++ to_be_bytes w64 c) e
+    ∙ ap (λ (t : List ℕ). (x ++ t) ++ to_be_bytes w64 c) f ∙ ap (λ (t : List ℕ). (x ++ y) ++ t) g
 
 make_tx : ℕ → ℕ → ℕ → Tx
 make_tx client number payload = record { client = client; number = number; payload = payload }
@@ -90,32 +98,43 @@ tx_spelled bytes fits long =
     let number_fits = IsBytes-take 4 (drop 4 bytes) (IsBytes-drop 4 bytes fits) in
     let payload_fits = IsBytes-take 8 (drop 8 bytes) (IsBytes-drop 8 bytes fits) in
     let a : to_be_bytes w32 (from_be_bytes w32 client) ≡ client = wide32.back client (omega (arith, length-take 4 bytes)) client_fits in
-    let b : to_be_bytes w32 (from_be_bytes w32 number) ≡ number = wide32.back number (omega (arith, length-take 4 (drop 4 bytes), length-drop 4 bytes)) number_fits in
-    let p : to_be_bytes w64 (from_be_bytes w64 payload) ≡ payload = wide64.back payload (omega (arith, length-take 8 (drop 8 bytes), length-drop 8 bytes)) payload_fits in
-    let whole : (client ++ number) ++ payload ≡ take 16 bytes = ap (λ (y : List ℕ). y ++ payload) (sym (take-add 4 4 bytes)) ∙ sym (take-add 8 8 bytes) in
-    (spelled_by _ _ _ client number payload a b p ∙ whole, record { client = wide32.below client client_fits; number = wide32.below number number_fits; payload = wide64.below payload payload_fits })
+    let b : to_be_bytes w32 (from_be_bytes w32 number) ≡ number =
+    wide32.back number (omega (arith, length-take 4 (drop 4 bytes), length-drop 4 bytes)) number_fits in
+    let p : to_be_bytes w64 (from_be_bytes w64 payload) ≡ payload =
+    wide64.back payload (omega (arith, length-take 8 (drop 8 bytes), length-drop 8 bytes)) payload_fits in
+    let whole : (client ++ number) ++ payload ≡ take 16 bytes = ap (λ (y : List ℕ). y ++ payload) (sym (take-add 4 4 bytes)) ∙ sym (take-add 8 8 bytes) in (
+      spelled_by _ _ _ client number payload a b p ∙ whole,
+      record { client = wide32.below client client_fits; number = wide32.below number number_fits; payload = wide64.below payload payload_fits },
+    )
 
 tx_again : (t : Tx) (rest : List ℕ) → FitsTx t → tx_in (tx_spelling t ++ rest) ≡ t
 unfolding make_tx
 tx_again t rest h =
-    made_of _ _ _ t (from_be_bytes-to_be_bytes_4 t.client h.client) (from_be_bytes-to_be_bytes_4 t.number h.number) (from_be_bytes-to_be_bytes_8 t.payload h.payload)
+    made_of _ _ _ t (from_be_bytes-to_be_bytes_4 t.client h.client) (from_be_bytes-to_be_bytes_4 t.number h.number)
+    (from_be_bytes-to_be_bytes_8 t.payload h.payload)
 
-pub txs_spelled : (n : ℕ) (bytes : List ℕ) → IsBytes bytes → length bytes ≡ 16 * n → (flat_map tx_spelling (txs_in n bytes) ≡ bytes) × AllByRecursion FitsTx (txs_in n bytes)
+pub txs_spelled : (n : ℕ) (bytes : List ℕ) → IsBytes bytes → length bytes ≡ 16 * n
+    → (flat_map tx_spelling (txs_in n bytes) ≡ bytes) × AllByRecursion FitsTx (txs_in n bytes)
 txs_spelled zero bytes fits len = (sym (nil_from_length bytes (omega (arith, len))), tt)
 txs_spelled (suc n) bytes fits len =
     let first = tx_spelled bytes fits (omega (arith, len)) in
-    let others = txs_spelled n (drop 16 bytes) (IsBytes-drop 16 bytes fits) (omega (arith, len, length-drop 16 bytes)) in
-    (joined (tx_spelling (tx_in bytes)) (take 16 bytes) (flat_map tx_spelling (txs_in n (drop 16 bytes))) (drop 16 bytes) first.0 others.0 ∙ take-append-drop 16 bytes, (first.1, others.1))
+    let others = txs_spelled n (drop 16 bytes) (IsBytes-drop 16 bytes fits) (omega (arith, len, length-drop 16 bytes)) in (
+      joined (tx_spelling (tx_in bytes)) (take 16 bytes) (flat_map tx_spelling (txs_in n (drop 16 bytes))) (drop 16 bytes) first.0 others.0
+          ∙ take-append-drop 16 bytes,
+      (first.1, others.1),
+    )
 
 pub length-txs_in : (n : ℕ) (bytes : List ℕ) → length (txs_in n bytes) ≡ n
 length-txs_in zero bytes = refl
 length-txs_in (suc n) bytes = omega (arith, length-txs_in n (drop 16 bytes))
 
-pub txs_again : (ts : List Tx) → AllByRecursion FitsTx ts → (txs_in (length ts) (flat_map tx_spelling ts) ≡ ts) × (length (flat_map tx_spelling ts) ≡ 16 * length ts)
+pub txs_again : (ts : List Tx) → AllByRecursion FitsTx ts
+    → (txs_in (length ts) (flat_map tx_spelling ts) ≡ ts) × (length (flat_map tx_spelling ts) ≡ 16 * length ts)
 txs_again [] h = (refl, refl)
 txs_again (t ∷ ts) h =
     let others = txs_again ts h.1 in (
-      consed (tx_in (tx_spelling t ++ flat_map tx_spelling ts)) t (txs_in (length ts) (flat_map tx_spelling ts)) ts (tx_again t (flat_map tx_spelling ts) h.0) others.0,
+      consed (tx_in (tx_spelling t ++ flat_map tx_spelling ts)) t (txs_in (length ts) (flat_map tx_spelling ts)) ts
+          (tx_again t (flat_map tx_spelling ts) h.0) others.0,
       omega (arith, others.1),
     )
 
@@ -141,7 +160,8 @@ test_from_differ : (ts : List Tx) → AreDistinct ts → repeats ts ≡ false
 test_from_differ [] h = refl
 test_from_differ (t ∷ ts) h =
     or_from (holds t ts) (repeats ts)
-    (list_any_none (λ (x : Tx). tx_eq x t) ts (λ k d within. not_true _ (λ same. h 0 (suc k) d (omega arith) (omega (arith, within)) (sym ((tx_eq_decides (get_or ts k d) t).0 same)))))
+    (list_any_none (λ (x : Tx). tx_eq x t) ts
+    (λ k d within. not_true _ (λ same. h 0 (suc k) d (omega arith) (omega (arith, within)) (sym ((tx_eq_decides (get_or ts k d) t).0 same)))))
     (test_from_differ ts (λ i j d below within. h (suc i) (suc j) d (omega (arith, below)) (omega (arith, within))))
 
 -- ---- a list after its count
@@ -172,8 +192,10 @@ txs_exact most small = record {
   again = λ ts rest h.
       let s = txs_again ts h.each in
       ap (txs_at most) (append_assoc (to_be_bytes w16 (length ts)) (flat_map tx_spelling ts) rest)
-      ∙ ap (λ (y : Result (ℕ × List ℕ) WireFault). go_on y (λ n. piece_at (16 * n) >>= λ body. distinct (txs_in n body))) ((long_count_exact most small).again (length ts) (flat_map tx_spelling ts ++ rest) h.few)
-      ∙ ap (λ (y : Result (List ℕ × List ℕ) WireFault). go_on y (λ body. distinct (txs_in (length ts) body))) ((piece_exact (16 * length ts)).again (flat_map tx_spelling ts) rest s.1)
+      ∙ ap (λ (y : Result (ℕ × List ℕ) WireFault). go_on y (λ n. piece_at (16 * n) >>= λ body. distinct (txs_in n body)))
+      ((long_count_exact most small).again (length ts) (flat_map tx_spelling ts ++ rest) h.few)
+      ∙ ap (λ (y : Result (List ℕ × List ℕ) WireFault). go_on y (λ body. distinct (txs_in (length ts) body)))
+      ((piece_exact (16 * length ts)).again (flat_map tx_spelling ts) rest s.1)
       ∙ ap (λ (y : List Tx). distinct y rest) s.0
       ∙ ap (λ (y : Bool). cond y (Err Shape) (Ok (ts, rest))) (test_from_differ ts h.distinct);
 }

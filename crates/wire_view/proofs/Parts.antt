@@ -78,7 +78,8 @@ order_exact least = restated
     step (λ (o : LocalOrder). o.view) view_exact (λ view.
     step (λ (o : LocalOrder). o.parent) digest_exact (λ parent.
     step (λ (o : LocalOrder). o.fresh) (txs_exact 128 (omega arith)) (λ fresh.
-    step (λ (o : LocalOrder). o.late) (txs_exact 256 (omega arith)) (λ late. known_value (record { replica = replica; view = view; parent = parent; fresh = fresh; late = late }))
+    step (λ (o : LocalOrder). o.late) (txs_exact 256 (omega arith))
+    (λ late. known_value (record { replica = replica; view = view; parent = parent; fresh = fresh; late = late }))
     (λ late o h. ap (λ (x : LocalOrder). x.late) h))
     (λ fresh o h. ap (λ (x : LocalOrder). x.fresh) h.1))
     (λ parent o h. ap (λ (x : LocalOrder). x.parent) h.1.1))
@@ -108,7 +109,8 @@ accepted : (b : Bool) (x y : ℕ × List ℕ) → cond b (Ok x) (Err Kind) ≡ O
 accepted true x y e = (refl, cc)
 accepted false x y e = absurd cc
 
-tag_takes : (least : ℕ) (bytes : List ℕ) (s : SealedOrder) (rest : List ℕ) → IsBytes bytes → tagged_at least bytes ≡ Ok (s, rest) → (bytes ≡ sealed_order_spelling s ++ rest) × ((least ≤ s.order.replica) × IsWritableOrder s)
+tag_takes : (least : ℕ) (bytes : List ℕ) (s : SealedOrder) (rest : List ℕ) → IsBytes bytes → tagged_at least bytes ≡ Ok (s, rest)
+    → (bytes ≡ sealed_order_spelling s ++ rest) × ((least ≤ s.order.replica) × IsWritableOrder s)
 unfolding tagged_at
 tag_takes least [] s rest fits e = absurd cc
 tag_takes least (b ∷ bytes) s rest fits e =

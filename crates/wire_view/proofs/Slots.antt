@@ -50,11 +50,13 @@ pub twice : (xs : List Tx) (k : ℕ) (x : Tx) → 0 < k → slice_get xs (k - 1)
 twice xs k x some at held =
     repeats_later xs (k - 1) (ap repeats (one_before xs k x some at) ∙ or_left (holds x (drop k xs)) (repeats (drop k xs)) held)
 
-pub not_yet : (xs : List Tx) (k : ℕ) (x : Tx) → 0 < k → slice_get xs (k - 1) ≡ Some x → holds x (drop k xs) ≡ false → repeats (drop k xs) ≡ false → repeats (drop (k - 1) xs) ≡ false
+pub not_yet : (xs : List Tx) (k : ℕ) (x : Tx) → 0 < k → slice_get xs (k - 1) ≡ Some x → holds x (drop k xs) ≡ false
+    → repeats (drop k xs) ≡ false → repeats (drop (k - 1) xs) ≡ false
 not_yet xs k x some at new none =
     ap repeats (one_before xs k x some at) ∙ or_from (holds x (drop k xs)) (repeats (drop k xs)) new none
 
-pub taken_before : (taken : List Bool) (xs : List Tx) (k : ℕ) (x : Tx) → 0 < k → slice_get xs (k - 1) ≡ Some x → slot_of x < length taken → AreTaken taken (drop k xs)
+pub taken_before : (taken : List Bool) (xs : List Tx) (k : ℕ) (x : Tx) → 0 < k → slice_get xs (k - 1) ≡ Some x → slot_of x < length taken
+    → AreTaken taken (drop k xs)
     → AreTaken (set taken (slot_of x) true) (drop (k - 1) xs)
 taken_before taken xs k x some at inside all =
     subst (λ (ts : List Tx). AreTaken (set taken (slot_of x) true) ts) (sym (one_before xs k x some at)) (one_taken taken x (drop k xs) inside all)

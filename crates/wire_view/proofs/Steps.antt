@@ -63,33 +63,40 @@ forget : {A : Type 0} (r : Result (List A × List ℕ) WireFault) (y : A) → re
 forget (Ok z) y = refl
 forget (Err fault) y = refl
 
-pub rest_goes_on : {A : Type 0} (one : ℕ → List ℕ → Result (A × List ℕ) WireFault) (key : A → ℕ) (n i least : ℕ) (bytes : List ℕ) (x : A) (after : List ℕ) (total : Result (List ℕ) WireFault)
-    → i < n → one least bytes ≡ Ok (x, after) → rest_of (ascending_at one key (n - i) least bytes) ≡ total → rest_of (ascending_at one key (n - (i + 1)) (key x + 1) after) ≡ total
+pub rest_goes_on : {A : Type 0} (one : ℕ → List ℕ → Result (A × List ℕ) WireFault) (key : A → ℕ) (n i least : ℕ) (bytes : List ℕ) (x : A)
+    (after : List ℕ) (total : Result (List ℕ) WireFault)
+    → i < n → one least bytes ≡ Ok (x, after) → rest_of (ascending_at one key (n - i) least bytes) ≡ total
+    → rest_of (ascending_at one key (n - (i + 1)) (key x + 1) after) ≡ total
 unfolding ascending_at
 rest_goes_on {A} one key n i least bytes x after total lt e so_far =
     let k : n - i ≡ suc (n - (i + 1)) = omega arith in
     let here : rest_of (ascending_at one key (n - i) least bytes) ≡ rest_of (ascending_at one key (n - (i + 1)) (key x + 1) after) =
     ap (λ (m : ℕ). rest_of (ascending_at one key m least bytes)) k
-    ∙ ap (λ (r : Result (A × List ℕ) WireFault). rest_of (go_on r (λ first. ascending_at one key (n - (i + 1)) (key first + 1) >>= λ others. give (first ∷ others)))) e
+    ∙ ap (λ (r : Result (A × List ℕ) WireFault).
+    rest_of (go_on r (λ first. ascending_at one key (n - (i + 1)) (key first + 1) >>= λ others. give (first ∷ others)))) e
     ∙ forget (ascending_at one key (n - (i + 1)) (key x + 1) after) x in
     sym here ∙ so_far
 
-pub rest_fails : {A : Type 0} (one : ℕ → List ℕ → Result (A × List ℕ) WireFault) (key : A → ℕ) (n i least : ℕ) (bytes : List ℕ) (fault : WireFault) (total : Result (List ℕ) WireFault)
+pub rest_fails : {A : Type 0} (one : ℕ → List ℕ → Result (A × List ℕ) WireFault) (key : A → ℕ) (n i least : ℕ) (bytes : List ℕ)
+    (fault : WireFault) (total : Result (List ℕ) WireFault)
     → i < n → one least bytes ≡ Err fault → rest_of (ascending_at one key (n - i) least bytes) ≡ total → total ≡ Err fault
 unfolding ascending_at
 rest_fails {A} one key n i least bytes fault total lt e so_far =
     let k : n - i ≡ suc (n - (i + 1)) = omega arith in
     sym so_far ∙ ap (λ (m : ℕ). rest_of (ascending_at one key m least bytes)) k
-    ∙ ap (λ (r : Result (A × List ℕ) WireFault). rest_of (go_on r (λ first. ascending_at one key (n - (i + 1)) (key first + 1) >>= λ others. give (first ∷ others)))) e
+    ∙ ap (λ (r : Result (A × List ℕ) WireFault).
+    rest_of (go_on r (λ first. ascending_at one key (n - (i + 1)) (key first + 1) >>= λ others. give (first ∷ others)))) e
 
-pub rest_ends : {A : Type 0} (one : ℕ → List ℕ → Result (A × List ℕ) WireFault) (key : A → ℕ) (n i least : ℕ) (bytes : List ℕ) (total : Result (List ℕ) WireFault)
+pub rest_ends : {A : Type 0} (one : ℕ → List ℕ → Result (A × List ℕ) WireFault) (key : A → ℕ) (n i least : ℕ) (bytes : List ℕ)
+    (total : Result (List ℕ) WireFault)
     → n ≤ i → rest_of (ascending_at one key (n - i) least bytes) ≡ total → total ≡ Ok bytes
 unfolding ascending_at
 rest_ends one key n i least bytes total le so_far =
     let k : n - i ≡ 0 = omega arith in
     sym so_far ∙ ap (λ (m : ℕ). rest_of (ascending_at one key m least bytes)) k
 
-parts_of : {A : Type 0} (xs : List A) (i : ℕ) (x : A) (others : List A) (rest : List ℕ) (r : Result (List A × List ℕ) WireFault) → r ≡ Ok (others, rest) → x ∷ others ≡ drop i xs → rest ≡ []
+parts_of : {A : Type 0} (xs : List A) (i : ℕ) (x : A) (others : List A) (rest : List ℕ) (r : Result (List A × List ℕ) WireFault)
+    → r ≡ Ok (others, rest) → x ∷ others ≡ drop i xs → rest ≡ []
     → (slice_get xs i ≡ Some x) × (r ≡ Ok (drop (i + 1) xs, []))
 parts_of {A} xs i x others rest r e items last =
     let at : slice_get xs i ≡ Some x = get_from_drop xs i x others (sym items) in
@@ -98,15 +105,19 @@ parts_of {A} xs i x others rest r e items last =
     (at, e ∙ ap (λ (y : List A). Ok (y, rest)) tail ∙ ap (λ (y : List ℕ). Ok (drop (i + 1) xs, y)) last)
 
 -- a list that was read whole, from its beginning
-pub opens : {A : Type 0} (one : ℕ → List ℕ → Result (A × List ℕ) WireFault) (key : A → ℕ) (n : ℕ) (bytes : List ℕ) (xs : List A) → ascending_at one key n 0 bytes ≡ Ok (found (ascending_at one key n 0 bytes), [])
-    → length (found (ascending_at one key n 0 bytes)) ≡ n → found (ascending_at one key n 0 bytes) ≡ xs → ascending_at one key (length xs - 0) 0 bytes ≡ Ok (xs, [])
+pub opens : {A : Type 0} (one : ℕ → List ℕ → Result (A × List ℕ) WireFault) (key : A → ℕ) (n : ℕ) (bytes : List ℕ) (xs : List A)
+    → ascending_at one key n 0 bytes ≡ Ok (found (ascending_at one key n 0 bytes), [])
+    → length (found (ascending_at one key n 0 bytes)) ≡ n → found (ascending_at one key n 0 bytes) ≡ xs
+    → ascending_at one key (length xs - 0) 0 bytes ≡ Ok (xs, [])
 opens {A} one key n bytes xs read count is =
     let size : length xs - 0 ≡ n = omega (arith, count, ap length is) in
     ap (λ (m : ℕ). ascending_at one key m 0 bytes) size ∙ read ∙ ap (λ (y : List A). Ok (y, [])) is
 
 -- what it has next: one, and the others after it
-pub next_is : {A : Type 0} (one : ℕ → List ℕ → Result (A × List ℕ) WireFault) (key : A → ℕ) (xs : List A) (i least : ℕ) (bytes : List ℕ) (x : A) (after : List ℕ) → i < length xs
-    → one least bytes ≡ Ok (x, after) → ascending_at one key (length xs - i) least bytes ≡ Ok (drop i xs, []) → (slice_get xs i ≡ Some x) × (ascending_at one key (length xs - (i + 1)) (key x + 1) after ≡ Ok (drop (i + 1) xs, []))
+pub next_is : {A : Type 0} (one : ℕ → List ℕ → Result (A × List ℕ) WireFault) (key : A → ℕ) (xs : List A) (i least : ℕ) (bytes : List ℕ)
+    (x : A) (after : List ℕ) → i < length xs
+    → one least bytes ≡ Ok (x, after) → ascending_at one key (length xs - i) least bytes ≡ Ok (drop i xs, [])
+    → (slice_get xs i ≡ Some x) × (ascending_at one key (length xs - (i + 1)) (key x + 1) after ≡ Ok (drop (i + 1) xs, []))
 unfolding ascending_at
 next_is {A} one key xs i least bytes x after lt first e =
     let m : ℕ = length xs - (i + 1) in
@@ -125,7 +136,8 @@ unfolding ascending_at
 next_succeeds {A} one key xs i least bytes lt e =
     let m : ℕ = length xs - (i + 1) in
     let size : length xs - i ≡ suc m = omega arith in
-    let w = went_on (one least bytes) (λ f. ascending_at one key m (key f + 1) >>= λ others. give (f ∷ others)) (drop i xs, []) (ap (λ (j : ℕ). ascending_at one key j least bytes) (sym size) ∙ e) in
+    let w = went_on (one least bytes) (λ f. ascending_at one key m (key f + 1) >>= λ others. give (f ∷ others)) (drop i xs, [])
+    (ap (λ (j : ℕ). ascending_at one key j least bytes) (sym size) ∙ e) in
     (w.0, w.1)
 
 abbrev read_ok : {A : Type 0} → A → Result A WireFault
@@ -146,7 +158,8 @@ pub record IsHeld {A : Type 0} (Fits : List A → Type 0) (reads : List ℕ → 
   pub fits : Fits (found (reads (prefix_of bytes rest)))
   pub shorter : length rest ≤ length bytes
 
-held_by : {A : Type 0} {text : List A → List ℕ} {Fits : List A → Type 0} {reads : List ℕ → Result (List A × List ℕ) WireFault} (exact : IsExact text Fits reads) (bytes rest : List ℕ) → IsBytes bytes
+held_by : {A : Type 0} {text : List A → List ℕ} {Fits : List A → Type 0} {reads : List ℕ → Result (List A × List ℕ) WireFault}
+    (exact : IsExact text Fits reads) (bytes rest : List ℕ) → IsBytes bytes
     → (r : Result (List A × List ℕ) WireFault) → reads bytes ≡ r → rest_of r ≡ Ok rest → IsHeld Fits reads bytes rest
 held_by exact bytes rest fits (Err fault) is b = absurd cc
 held_by {A} {text} {Fits} {reads} exact bytes rest fits (Ok x) is b =
@@ -162,6 +175,7 @@ held_by {A} {text} {Fits} {reads} exact bytes rest fits (Ok x) is b =
       shorter = omega (arith, ap length (exact.takes bytes x.0 rest fits read).0, length-append (text x.0) rest);
     }
 
-pub held : {A : Type 0} {text : List A → List ℕ} {Fits : List A → Type 0} {reads : List ℕ → Result (List A × List ℕ) WireFault} (exact : IsExact text Fits reads) (bytes rest : List ℕ) → IsBytes bytes
+pub held : {A : Type 0} {text : List A → List ℕ} {Fits : List A → Type 0} {reads : List ℕ → Result (List A × List ℕ) WireFault}
+    (exact : IsExact text Fits reads) (bytes rest : List ℕ) → IsBytes bytes
     → rest_of (reads bytes) ≡ Ok rest → IsHeld Fits reads bytes rest
 held {A} {text} {Fits} {reads} exact bytes rest fits e = held_by exact bytes rest fits (reads bytes) refl e

@@ -46,7 +46,10 @@ call_exact kind = restated
     call_body (IsWritableCall kind)
     (λ c. regrouped (to_be_bytes w8 c.replica) (to_be_bytes w32 c.view) (cert_spelling c.cert) (seal_spelling c.seal))
     (λ c h. record { kind_is = ap (λ (x : Call). x.kind) h.1.1.1.1; sender = record { named = h.0; sealed = h.1.1.1.0 }; view = h.1.0; cert = h.1.1.0 })
-    (λ c h. (h.sender.named, (h.view, (h.cert, (h.sender.sealed, ap (λ (k : ℕ). record { kind = k; replica = c.replica; view = c.view; cert = c.cert; seal = c.seal }) h.kind_is)))))
+    (λ c h. (
+      h.sender.named,
+      (h.view, (h.cert, (h.sender.sealed, ap (λ (k : ℕ). record { kind = k; replica = c.replica; view = c.view; cert = c.cert; seal = c.seal }) h.kind_is))),
+    ))
 
 abbrev proposed_body : Proposed → List ℕ
 proposed_body p = to_be_bytes w8 p.replica ++ block_spelling p.block ++ seal_spelling p.seal
@@ -70,19 +73,23 @@ proposed_exact = restated
 
 -- the order that a vote carries
 
-so_many_takes : (n : ℕ) (bytes : List ℕ) (o : Option SealedOrder) (rest : List ℕ) → n ≤ 1 → IsBytes bytes → so_many n bytes ≡ Ok (o, rest) → (to_be_bytes w8 n ++ bytes ≡ carried_spelling o ++ rest) × IfSome o IsWritableOrder
+so_many_takes : (n : ℕ) (bytes : List ℕ) (o : Option SealedOrder) (rest : List ℕ) → n ≤ 1 → IsBytes bytes → so_many n bytes ≡ Ok (o, rest)
+    → (to_be_bytes w8 n ++ bytes ≡ carried_spelling o ++ rest) × IfSome o IsWritableOrder
 so_many_takes zero bytes o rest few fits e =
-    subst (λ (y : Option SealedOrder × List ℕ). (0 ∷ bytes ≡ carried_spelling y.0 ++ y.1) × IfSome y.0 IsWritableOrder) (ok_is (None, bytes) (o, rest) e) (refl, tt)
+    subst (λ (y : Option SealedOrder × List ℕ). (0 ∷ bytes ≡ carried_spelling y.0 ++ y.1) × IfSome y.0 IsWritableOrder)
+    (ok_is (None, bytes) (o, rest) e) (refl, tt)
 so_many_takes (suc zero) bytes o rest few fits e =
     let w = went_on (tagged_at 0 bytes) (λ order. give (Some order)) (o, rest) e in
     let t = (tagged_exact 0).takes bytes w.0.0 w.0.1 fits w.1 in
-    subst (λ (y : Option SealedOrder × List ℕ). (1 ∷ bytes ≡ carried_spelling y.0 ++ y.1) × IfSome y.0 IsWritableOrder) (ok_is (Some w.0.0, w.0.1) (o, rest) w.2) (ap (λ (y : List ℕ). 1 ∷ y) t.0, t.1.1)
+    subst (λ (y : Option SealedOrder × List ℕ). (1 ∷ bytes ≡ carried_spelling y.0 ++ y.1) × IfSome y.0 IsWritableOrder)
+    (ok_is (Some w.0.0, w.0.1) (o, rest) w.2) (ap (λ (y : List ℕ). 1 ∷ y) t.0, t.1.1)
 so_many_takes (suc (suc n)) bytes o rest few fits e = absurd (omega arith)
 
 carried_again : (o : Option SealedOrder) (rest : List ℕ) → IfSome o IsWritableOrder → carried_at (carried_spelling o ++ rest) ≡ Ok (o, rest)
 unfolding carried_at short_count_at
 carried_again None rest h = refl
-carried_again (Some s) rest h = ap (λ (r : Result (SealedOrder × List ℕ) WireFault). go_on r (λ order. give (Some order))) ((tagged_exact 0).again s rest (omega arith, h))
+carried_again (Some s) rest h = ap (λ (r : Result (SealedOrder × List ℕ) WireFault). go_on r (λ order. give (Some order)))
+    ((tagged_exact 0).again s rest (omega arith, h))
 
 carried_exact : IsExact carried_spelling (λ o. IfSome o IsWritableOrder) carried_at
 unfolding carried_at
@@ -114,7 +121,8 @@ voted_exact = restated
     step (λ (v : Voted). v.vote.view) view_exact (λ view.
     step (λ (v : Voted). v.vote.block) digest_exact (λ block.
     step (λ (v : Voted). v.vote.seal) seal_exact (λ seal.
-    step (λ (v : Voted). v.order) carried_exact (λ order. known_value (record { vote = record { replica = replica; view = view; block = block; seal = seal }; order = order }))
+    step (λ (v : Voted). v.order) carried_exact
+    (λ order. known_value (record { vote = record { replica = replica; view = view; block = block; seal = seal }; order = order }))
     (λ order v h. ap (λ (x : Voted). x.order) h))
     (λ seal v h. ap (λ (x : Voted). x.vote.seal) h.1))
     (λ block v h. ap (λ (x : Voted). x.vote.block) h.1.1))
@@ -135,8 +143,10 @@ record IsTaken (kind : ℕ) (bytes : List ℕ) (v : MessageView) (rest : List �
   pub parts : VERSION ∷ kind ∷ bytes ≡ message_spelling (message_of v) ++ rest
   pub writable : IsWritable (message_of v)
 
-kind_takes : {A : Type 0} {text : A → List ℕ} {Fits : A → Type 0} {reads : List ℕ → Result (A × List ℕ) WireFault} (exact : IsExact text Fits reads) (make : A → MessageView) (kind tag : ℕ) (bytes : List ℕ) (v : MessageView) (rest : List ℕ)
-    → ((a : A) → VERSION ∷ tag ∷ text a ≡ message_spelling (message_of (make a))) → ((a : A) → Fits a → IsWritable (message_of (make a))) → IsBytes bytes → eqb kind tag ≡ true → (reads >>= λ a. give (make a)) bytes ≡ Ok (v, rest) → IsTaken kind bytes v rest
+kind_takes : {A : Type 0} {text : A → List ℕ} {Fits : A → Type 0} {reads : List ℕ → Result (A × List ℕ) WireFault}
+    (exact : IsExact text Fits reads) (make : A → MessageView) (kind tag : ℕ) (bytes : List ℕ) (v : MessageView) (rest : List ℕ)
+    → ((a : A) → VERSION ∷ tag ∷ text a ≡ message_spelling (message_of (make a))) → ((a : A) → Fits a → IsWritable (message_of (make a)))
+    → IsBytes bytes → eqb kind tag ≡ true → (reads >>= λ a. give (make a)) bytes ≡ Ok (v, rest) → IsTaken kind bytes v rest
 kind_takes {A} {text} {Fits} {reads} exact make kind tag bytes v rest same writable fits test e =
     let w = went_on (reads bytes) (λ a. give (make a)) (v, rest) e in
     let t = exact.takes bytes w.0.0 w.0.1 fits w.1 in
@@ -146,7 +156,9 @@ kind_takes {A} {text} {Fits} {reads} exact make kind tag bytes v rest same writa
       writable = writable w.0.0 t.1;
     })
 
-kind_again : {A : Type 0} {text : A → List ℕ} {Fits : A → Type 0} {reads : List ℕ → Result (A × List ℕ) WireFault} (exact : IsExact text Fits reads) (make : A → MessageView) (a : A) → Fits a → (reads >>= λ x. give (make x)) (text a) ≡ Ok (make a, [])
+kind_again : {A : Type 0} {text : A → List ℕ}
+    {Fits : A → Type 0} {reads : List ℕ → Result (A × List ℕ) WireFault} (exact : IsExact text Fits reads) (make : A → MessageView) (a : A)
+    → Fits a → (reads >>= λ x. give (make x)) (text a) ≡ Ok (make a, [])
 kind_again {A} {text} {Fits} {reads} exact make a h =
     ap (λ (y : List ℕ). go_on (reads y) (λ x. give (make x))) (sym (append-nil (text a)))
     ∙ ap (λ (r : Result (A × List ℕ) WireFault). go_on r (λ x. give (make x))) (exact.again a [] h)
@@ -154,19 +166,29 @@ kind_again {A} {text} {Fits} {reads} exact make a h =
 refused : {x : MessageView × List ℕ} → fault_of Kind ≡ Ok x → ⊥
 refused e = cc
 
-tested_case : {A : Type 0} {text : A → List ℕ} {Fits : A → Type 0} {reads : List ℕ → Result (A × List ℕ) WireFault} (exact : IsExact text Fits reads) (make : A → MessageView) (others : List ℕ → Result (MessageView × List ℕ) WireFault) (kind tag : ℕ) (bytes : List ℕ) (v : MessageView) (rest : List ℕ)
-    → ((a : A) → VERSION ∷ tag ∷ text a ≡ message_spelling (message_of (make a))) → ((a : A) → Fits a → IsWritable (message_of (make a))) → IsBytes bytes → (b : Bool) → eqb kind tag ≡ b
-    → (cond b (reads >>= λ a. give (make a)) others) bytes ≡ Ok (v, rest) → (others bytes ≡ Ok (v, rest) → IsTaken kind bytes v rest) → IsTaken kind bytes v rest
-tested_case exact make others kind tag bytes v rest same writable fits true test e else_so = kind_takes exact make kind tag bytes v rest same writable fits test e
+tested_case : {A : Type 0} {text : A → List ℕ} {Fits : A → Type 0} {reads : List ℕ → Result (A × List ℕ) WireFault}
+    (exact : IsExact text Fits reads) (make : A → MessageView) (others : List ℕ → Result (MessageView × List ℕ) WireFault) (kind tag : ℕ)
+    (bytes : List ℕ) (v : MessageView) (rest : List ℕ)
+    → ((a : A) → VERSION ∷ tag ∷ text a ≡ message_spelling (message_of (make a))) → ((a : A) → Fits a → IsWritable (message_of (make a)))
+    → IsBytes bytes → (b : Bool) → eqb kind tag ≡ b
+    → (cond b (reads >>= λ a. give (make a)) others) bytes ≡ Ok (v, rest) → (others bytes ≡ Ok (v, rest) → IsTaken kind bytes v rest)
+    → IsTaken kind bytes v rest
+tested_case exact make others kind tag bytes v rest same writable fits true test e else_so =
+    kind_takes exact make kind tag bytes v rest same writable fits test e
 tested_case exact make others kind tag bytes v rest same writable fits false test e else_so = else_so e
 
 -- one test of the chain: the message is of this kind, or the others have it
-kind_case : {A : Type 0} {text : A → List ℕ} {Fits : A → Type 0} {reads : List ℕ → Result (A × List ℕ) WireFault} (exact : IsExact text Fits reads) (make : A → MessageView) (others : List ℕ → Result (MessageView × List ℕ) WireFault) (kind tag : ℕ) (bytes : List ℕ) (v : MessageView) (rest : List ℕ)
+kind_case : {A : Type 0} {text : A → List ℕ} {Fits : A → Type 0} {reads : List ℕ → Result (A × List ℕ) WireFault}
+    (exact : IsExact text Fits reads) (make : A → MessageView) (others : List ℕ → Result (MessageView × List ℕ) WireFault) (kind tag : ℕ)
+    (bytes : List ℕ) (v : MessageView) (rest : List ℕ)
     → ((a : A) → VERSION ∷ tag ∷ text a ≡ message_spelling (message_of (make a))) → ((a : A) → Fits a → IsWritable (message_of (make a))) → IsBytes bytes
-    → (cond (eqb kind tag) (reads >>= λ a. give (make a)) others) bytes ≡ Ok (v, rest) → (others bytes ≡ Ok (v, rest) → IsTaken kind bytes v rest) → IsTaken kind bytes v rest
-kind_case {A} {text} {Fits} {reads} exact make others kind tag bytes v rest same writable fits e else_so = tested_case exact make others kind tag bytes v rest same writable fits (eqb kind tag) refl e else_so
+    → (cond (eqb kind tag) (reads >>= λ a. give (make a)) others) bytes ≡ Ok (v, rest)
+    → (others bytes ≡ Ok (v, rest) → IsTaken kind bytes v rest) → IsTaken kind bytes v rest
+kind_case {A} {text} {Fits} {reads} exact make others kind tag bytes v rest same writable fits e else_so =
+    tested_case exact make others kind tag bytes v rest same writable fits (eqb kind tag) refl e else_so
 
-after_kind_takes : (kind : ℕ) (bytes : List ℕ) (v : MessageView) (rest : List ℕ) → IsBytes bytes → after_kind kind bytes ≡ Ok (v, rest) → IsTaken kind bytes v rest
+after_kind_takes : (kind : ℕ) (bytes : List ℕ) (v : MessageView) (rest : List ℕ) → IsBytes bytes → after_kind kind bytes ≡ Ok (v, rest)
+    → IsTaken kind bytes v rest
 unfolding after_kind
 after_kind_takes kind bytes v rest fits e =
     kind_case (call_exact NEW_VIEW) (λ c. NewView c) _ kind NEW_VIEW bytes v rest (λ c. refl) (λ c h. (h.sender, h.view, h.cert)) fits e (λ e2.
@@ -190,7 +212,8 @@ ended false v x e = absurd cc
 short : {x : MessageView × List ℕ} → (byte_at >>= after_kind) [] ≡ Ok x → ⊥
 short e = cc
 
-message_takes : (bytes : List ℕ) (v : MessageView) (rest : List ℕ) → IsBytes bytes → message_at bytes ≡ Ok (v, rest) → (bytes ≡ message_spelling (message_of v) ++ rest) × IsWritable (message_of v)
+message_takes : (bytes : List ℕ) (v : MessageView) (rest : List ℕ) → IsBytes bytes → message_at bytes ≡ Ok (v, rest)
+    → (bytes ≡ message_spelling (message_of v) ++ rest) × IsWritable (message_of v)
 unfolding message_at
 message_takes [] v rest fits e = absurd cc
 message_takes (version ∷ []) v rest fits e =
@@ -207,13 +230,15 @@ message_takes (version ∷ kind ∷ bytes) v rest fits e =
     let t = after_kind_takes kind bytes v rest (λ i. fits (suc (suc i))) read in
     (ap (λ (k : ℕ). k ∷ kind ∷ bytes) is ∙ t.parts, t.writable)
 
-ended_so : (bytes : List ℕ) (v : MessageView) → IsBytes bytes → (r : Result (MessageView × List ℕ) WireFault) → message_at bytes ≡ r → whole r ≡ Ok v → (bytes ≡ message_spelling (message_of v)) × IsWritable (message_of v)
+ended_so : (bytes : List ℕ) (v : MessageView) → IsBytes bytes → (r : Result (MessageView × List ℕ) WireFault) → message_at bytes ≡ r
+    → whole r ≡ Ok v → (bytes ≡ message_spelling (message_of v)) × IsWritable (message_of v)
 ended_so bytes v fits (Err fault) is e = absurd cc
 ended_so bytes v fits (Ok x) is e =
     let last = ended (eqb (length x.1) 0) x.0 v e in
     let nothing : x.1 ≡ [] = nil_from_length x.1 (eqb-true (length x.1) 0 last.0) in
     let t = message_takes bytes x.0 x.1 fits is in
-    let whole_text : bytes ≡ message_spelling (message_of x.0) = t.0 ∙ ap (λ (y : List ℕ). message_spelling (message_of x.0) ++ y) nothing ∙ append-nil (message_spelling (message_of x.0)) in
+    let whole_text : bytes ≡ message_spelling (message_of x.0) = t.0 ∙ ap (λ (y : List ℕ). message_spelling (message_of x.0) ++ y) nothing
+    ∙ append-nil (message_spelling (message_of x.0)) in
     subst (λ (y : MessageView). (bytes ≡ message_spelling (message_of y)) × IsWritable (message_of y)) last.1 (whole_text, t.1)
 
 -- What is read is spelled so.
@@ -224,11 +249,17 @@ found_so bytes v fits e = ended_so bytes v fits (message_at bytes) refl e
 -- What is spelled so is read.
 pub read_again : (m : Message) → IsWritable m → read_of (message_spelling m) ≡ Ok (view_of m)
 unfolding read_of message_at after_kind
-read_again (messages.NewView replica view cert seal) h = ap whole (kind_again (call_exact NEW_VIEW) (λ c. NewView c) (record { kind = NEW_VIEW; replica = replica; view = view; cert = cert; seal = seal }) (record { kind_is = refl; sender = h.0; view = h.1; cert = h.2 }))
-read_again (messages.Ask replica view cert seal) h = ap whole (kind_again (call_exact ASK) (λ c. Ask c) (record { kind = ASK; replica = replica; view = view; cert = cert; seal = seal }) (record { kind_is = refl; sender = h.0; view = h.1; cert = h.2 }))
+read_again (messages.NewView replica view cert seal) h = ap whole
+    (kind_again (call_exact NEW_VIEW) (λ c. NewView c) (record { kind = NEW_VIEW; replica = replica; view = view; cert = cert; seal = seal })
+    (record { kind_is = refl; sender = h.0; view = h.1; cert = h.2 }))
+read_again (messages.Ask replica view cert seal) h = ap whole
+    (kind_again (call_exact ASK) (λ c. Ask c) (record { kind = ASK; replica = replica; view = view; cert = cert; seal = seal })
+    (record { kind_is = refl; sender = h.0; view = h.1; cert = h.2 }))
 read_again (messages.Order s) h = ap whole (kind_again (sealed_exact 0) (λ x. Order x) s (omega arith, h))
-read_again (messages.Propose replica block seal) h = ap whole (kind_again proposed_exact (λ p. Propose p) (record { replica = replica; block = block; seal = seal }) h)
-read_again (messages.Vote vote order) h = ap whole (kind_again voted_exact (λ v. Vote v) (record { vote = vote; order = order }) (record { sender = h.0; view = h.1; block = h.2; order = h.3 }))
+read_again (messages.Propose replica block seal) h =
+    ap whole (kind_again proposed_exact (λ p. Propose p) (record { replica = replica; block = block; seal = seal }) h)
+read_again (messages.Vote vote order) h = ap whole
+    (kind_again voted_exact (λ v. Vote v) (record { vote = vote; order = order }) (record { sender = h.0; view = h.1; block = h.2; order = h.3 }))
 read_again (messages.Fetch block) h = ap whole (kind_again digest_exact (λ d. Fetch d) block h)
 read_again (messages.Give block) h = ap whole (kind_again block_exact (λ b. Give b) block h)
 
@@ -258,6 +289,7 @@ one_message m n first second same =
     let views : view_of m ≡ view_of n = same_view (view_of m) (view_of n) (sym (read_again m first) ∙ ap read_of same ∙ read_again n second) in
     sym (message_of_view m) ∙ ap message_of views ∙ message_of_view n
 
-pub is_found : (bytes : List ℕ) (r : Result MessageView WireFault) → IsBytes bytes → read_of bytes ≡ r → IfOk r (λ view. IsWritable (message_of view) × (bytes ≡ message_spelling (message_of view)))
+pub is_found : (bytes : List ℕ) (r : Result MessageView WireFault) → IsBytes bytes → read_of bytes ≡ r
+    → IfOk r (λ view. IsWritable (message_of view) × (bytes ≡ message_spelling (message_of view)))
 is_found bytes (Err fault) fits e = tt
 is_found bytes (Ok v) fits e = let f = found_so bytes v fits e in (f.1, f.0)

@@ -86,7 +86,12 @@ ascending_at one key (suc n) least = do
 -- ---- lists of transactions
 
 abbrev pub tx_in : List ℕ → Tx
-tx_in bytes = record { client = from_be_bytes w32 (take 4 bytes); number = from_be_bytes w32 (take 4 (drop 4 bytes)); payload = from_be_bytes w64 (take 8 (drop 8 bytes)) }
+tx_in bytes =
+    record {
+      client = from_be_bytes w32 (take 4 bytes);
+      number = from_be_bytes w32 (take 4 (drop 4 bytes));
+      payload = from_be_bytes w64 (take 8 (drop 8 bytes));
+    }
 
 abbrev pub txs_in : ℕ → List ℕ → List Tx
 txs_in zero bytes = []

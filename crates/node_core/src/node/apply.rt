@@ -40,7 +40,8 @@ impl<S: Sealer> Node<S> {
     fn apply_tick(&mut self, view: u32) -> Result<Turned, NoMemory>
         requires { view ≤ self.old.state.known.views }
         ensures ok { IfOk result (λ t.
-            calls (S.gives self.old.sealer) (knowing self.old.state (record self.old.state.known { view = view })) ≡ record { reported = t; state = self.new.state }) }
+            calls (S.gives self.old.sealer) (knowing self.old.state (record self.old.state.known { view = view }))
+            ≡ record { reported = t; state = self.new.state }) }
         ensures seat { KeepsSeat S.Sealer self.old self.new }
     {
         self.state.set_view(view);

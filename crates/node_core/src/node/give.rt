@@ -50,7 +50,8 @@ impl<S: Sealer> Node<S> {
         requires view { view.now.view ≤ self.now.state.known.views }
         requires earlier { view.now.cert.view < view.now.view }
         requires parent { is_stored self.now.state.known.store view.now.cert.block ≡ true }
-        ensures { IfOk result (IsJudged (S.gives self.now.sealer) self.now.state (given_for self.now.state view.now (given_reason (C.meaning checker.now) self.now.state.known view.now))) }
+        ensures { IfOk result (IsJudged (S.gives self.now.sealer) self.now.state
+            (given_for self.now.state view.now (given_reason (C.meaning checker.now) self.now.state.known view.now))) }
     {
         let block = view.own(self.alloc)?;
         let digest = name_of(view);

@@ -19,7 +19,8 @@ impl<S: Sealer> Node<S> {
         checker: &C,
         event: &'a Event,
     ) -> Result<Judged<'a>, NoMemory>
-        ensures judged { IfOk result (IsJudged (S.gives self.now.sealer) self.now.state (turn_of (C.meaning checker.now) (S.gives self.now.sealer) self.now.state event.now)) }
+        ensures judged { IfOk result
+            (IsJudged (S.gives self.now.sealer) self.now.state (turn_of (C.meaning checker.now) (S.gives self.now.sealer) self.now.state event.now)) }
         ensures readable { OnOk result (IsReadable event.now) }
         ensures memory { OnErr result (IsTrue (judging_takes_memory (C.meaning checker.now) self.now.state.known event.now)) }
     {
@@ -61,7 +62,8 @@ impl<S: Sealer> Node<S> {
         from: u32,
         message: MessageView<'a>,
     ) -> Result<Judged<'a>, NoMemory>
-        ensures judged { IfOk result (IsJudged (S.gives self.now.sealer) self.now.state (on_message (C.meaning checker.now) (S.gives self.now.sealer) self.now.state from message.entry)) }
+        ensures judged { IfOk result (IsJudged (S.gives self.now.sealer) self.now.state
+            (on_message (C.meaning checker.now) (S.gives self.now.sealer) self.now.state from message.entry)) }
         ensures memory { OnErr result (IsTrue (message_takes_memory (C.meaning checker.now) self.now.state.known from message.entry)) }
     {
         match message {

@@ -21,7 +21,8 @@ impl<S: Sealer> Node<S> {
         from: u32,
         call: CallView<'a>,
     ) -> Result<Judged<'a>, NoMemory>
-        ensures judged { IfOk result (IsJudged (S.gives self.now.sealer) self.now.state (on_new_view (C.meaning checker.now) (S.gives self.now.sealer) self.now.state from call.entry)) }
+        ensures judged { IfOk result
+            (IsJudged (S.gives self.now.sealer) self.now.state (on_new_view (C.meaning checker.now) (S.gives self.now.sealer) self.now.state from call.entry)) }
         ensures memory { OnErr result (IsTrue (fetches (new_view_reason (C.meaning checker.now) self.now.state.known from call.entry))) }
     {
         match new_view_reason(&self.state, checker, from, &call) {

@@ -20,7 +20,8 @@ impl<S: Sealer> Node<S> {
         from: u32,
         order: &OrderView<'a>,
     ) -> Result<Judged<'a>, NoMemory>
-        ensures judged { IfOk result (IsJudged (S.gives self.now.sealer) self.now.state (on_order (C.meaning checker.now) (S.gives self.now.sealer) self.now.state from order.now)) }
+        ensures judged { IfOk result
+            (IsJudged (S.gives self.now.sealer) self.now.state (on_order (C.meaning checker.now) (S.gives self.now.sealer) self.now.state from order.now)) }
         ensures memory { OnErr result (IsTrue (copies (order_reason (C.meaning checker.now) self.now.state.known from order.now))) }
     {
         match order_reason(&self.state, checker, from, order) {
@@ -35,7 +36,8 @@ impl<S: Sealer> Node<S> {
         order: &OrderView<'a>,
     ) -> Result<Judged<'a>, NoMemory>
         requires { self.now.state.known.asked ≢ self.now.state.known.proposed }
-        ensures { IfOk result (IsJudged (S.gives self.now.sealer) self.now.state (kept_order_for (S.gives self.now.sealer) self.now.state order.now (kept_order_reason self.now.state.known from order.now.order))) }
+        ensures { IfOk result (IsJudged (S.gives self.now.sealer) self.now.state
+            (kept_order_for (S.gives self.now.sealer) self.now.state order.now (kept_order_reason self.now.state.known from order.now.order))) }
     {
         let sealed = order.own(self.alloc)?;
         match owned_order_reason(&self.state, from, &sealed.order)? {

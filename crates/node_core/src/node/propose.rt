@@ -21,7 +21,8 @@ impl<S: Sealer> Node<S> {
         from: u32,
         propose: &ProposeView<'a>,
     ) -> Result<Judged<'a>, NoMemory>
-        ensures judged { IfOk result (IsJudged (S.gives self.now.sealer) self.now.state (on_propose (C.meaning checker.now) (S.gives self.now.sealer) self.now.state from propose.now)) }
+        ensures judged { IfOk result
+            (IsJudged (S.gives self.now.sealer) self.now.state (on_propose (C.meaning checker.now) (S.gives self.now.sealer) self.now.state from propose.now)) }
         ensures memory { OnErr result (IsTrue (copies_or_fetches (propose_reason (C.meaning checker.now) self.now.state.known from propose.now))) }
     {
         let block = propose.block();
@@ -40,7 +41,8 @@ impl<S: Sealer> Node<S> {
         requires view { view.now.view ≤ self.now.state.known.views }
         requires earlier { view.now.cert.view < view.now.view }
         requires parent { is_stored self.now.state.known.store view.now.cert.block ≡ true }
-        ensures { IfOk result (IsJudged (S.gives self.now.sealer) self.now.state (proposed_for (S.gives self.now.sealer) self.now.state view.now (proposed_reason (C.meaning checker.now) self.now.state.known view.now))) }
+        ensures { IfOk result (IsJudged (S.gives self.now.sealer) self.now.state
+            (proposed_for (S.gives self.now.sealer) self.now.state view.now (proposed_reason (C.meaning checker.now) self.now.state.known view.now))) }
     {
         let block = view.own(self.alloc)?;
         let digest = name_of(view);

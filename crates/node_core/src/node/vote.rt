@@ -24,7 +24,8 @@ impl<S: Sealer> Node<S> {
         from: u32,
         vote: VoteView<'a>,
     ) -> Result<Judged<'a>, NoMemory>
-        ensures judged { IfOk result (IsJudged (S.gives self.now.sealer) self.now.state (on_vote (C.meaning checker.now) (S.gives self.now.sealer) self.now.state from vote.entry)) }
+        ensures judged { IfOk result
+            (IsJudged (S.gives self.now.sealer) self.now.state (on_vote (C.meaning checker.now) (S.gives self.now.sealer) self.now.state from vote.entry)) }
         ensures memory { OnErr result (IsTrue (vote_takes_memory (vote_reason (C.meaning checker.now) self.now.state.known from vote.entry) vote.entry.order)) }
     {
         match vote_reason(&self.state, checker, from, &vote) {
@@ -38,7 +39,8 @@ impl<S: Sealer> Node<S> {
         requires within { vote.vote.view ≤ self.now.state.known.views }
         requires own { vote.vote.replica ≡ from }
         requires higher { self.now.state.known.high.view < vote.vote.view }
-        ensures judged { IfOk result (IsJudged (S.gives self.now.sealer) self.now.state (voted_for (S.gives self.now.sealer) self.now.state vote.entry (voted_reason self.now.state.known from vote.entry.vote vote.entry.order))) }
+        ensures judged { IfOk result (IsJudged (S.gives self.now.sealer) self.now.state
+            (voted_for (S.gives self.now.sealer) self.now.state vote.entry (voted_reason self.now.state.known from vote.entry.vote vote.entry.order))) }
         ensures memory { OnErr result (IsTrue (is_some vote.entry.order)) }
     {
         let order = owned_order(self.alloc, &vote)?;
@@ -101,7 +103,8 @@ impl<S: Sealer> Node<S> {
         requires next { view ≡ formed.cert.view + 1 }
         requires within { view ≤ self.old.state.known.views }
         ensures ok { IfOk result (λ t.
-            proposes (S.gives self.old.sealer) (knowing self.old.state (proposing_next formed.cert self.old.state.known)) (next_block formed) ≡ record { reported = t; state = self.new.state }) }
+            proposes (S.gives self.old.sealer) (knowing self.old.state (proposing_next formed.cert self.old.state.known)) (next_block formed)
+            ≡ record { reported = t; state = self.new.state }) }
         ensures seat { KeepsSeat S.Sealer self.old self.new }
     {
         let block = self.state.next_block(view, formed)?;

@@ -18,7 +18,8 @@ returns-in-Some g c =
     let by : Scale = scale_of (g.C.Checker.meaning c.args.checker.now) c.args.run.now c.args.replica in
     let entries : List Entry = c.entries_of-entries.result.now in
     found_at (g.C.Checker.meaning c.args.checker.now) c.args.run.now c.args.replica entries c.entries_of-entries.ensures (place c.loop-at.at c.in-Some.rule)
-    (reported_here by entries c.loop-at.at c.index-entries-at.result c.index-entries-at.is c.loop-at-test.true c.loop-at.audit c.in-Some.rule c.loop-at.invariant
+    (reported_here by entries c.loop-at.at c.index-entries-at.result c.index-entries-at.is c.loop-at-test.true c.loop-at.audit
+    c.in-Some.rule c.loop-at.invariant
     (sym (c.in_ok-rule.ensures.rule by (take c.loop-at.at entries) refl c.loop-at.invariant.audited) ∙ c.in-Some.is))
 
 pub loop-at-preserved : goal.loop-at-preserved
@@ -28,7 +29,8 @@ loop-at-preserved g c =
     let prefix : List Entry = take c.loop-at.at entries in
     as_far_more by entries c.loop-at.at c.index-entries-at.result c.index-entries-at.is c.loop-at-test.true c.loop-at.audit c.audit.new.self c.loop-at.invariant
     (sym (c.in_ok-rule.ensures.rule by prefix refl c.loop-at.invariant.audited) ∙ c.in_default.is)
-    (subst (λ (o : Option ℕ). IfNone o (HasAudited by (up_to prefix c.index-entries-at.result) c.audit.new.self)) c.in_default.is (c.in_ok-rule.ensures.goes_on by prefix refl c.loop-at.invariant.audited))
+    (subst (λ (o : Option ℕ). IfNone o (HasAudited by (up_to prefix c.index-entries-at.result) c.audit.new.self)) c.in_default.is
+    (c.in_ok-rule.ensures.goes_on by prefix refl c.loop-at.invariant.audited))
 
 pub returns : goal.returns
 returns g c =

@@ -8,12 +8,14 @@ loop-replica-init g c = all_at_first (g.C.Checker.meaning c.args.checker.now) c.
 pub returns-in-Some : goal.returns-in-Some
 returns-in-Some g c =
     reported_first (g.C.Checker.meaning c.args.checker.now) c.args.run.now c.loop-replica.replica c.in-Some.reported
-    (subst (λ (n : ℕ). c.loop-replica.replica < n) c.n-replica-end.ensures.value c.loop-replica-test.true) c.loop-replica.invariant (sym c.in_ok-reported.ensures ∙ c.in-Some.is)
+    (subst (λ (n : ℕ). c.loop-replica.replica < n) c.n-replica-end.ensures.value c.loop-replica-test.true) c.loop-replica.invariant
+    (sym c.in_ok-reported.ensures ∙ c.in-Some.is)
 
 pub loop-replica-preserved : goal.loop-replica-preserved
 loop-replica-preserved g c =
     reported_later (g.C.Checker.meaning c.args.checker.now) c.args.run.now c.loop-replica.replica
-    (subst (λ (n : ℕ). c.loop-replica.replica < n) c.n-replica-end.ensures.value c.loop-replica-test.true) c.loop-replica.invariant (sym c.in_ok-reported.ensures ∙ c.in_default.is)
+    (subst (λ (n : ℕ). c.loop-replica.replica < n) c.n-replica-end.ensures.value c.loop-replica-test.true) c.loop-replica.invariant
+    (sym c.in_ok-reported.ensures ∙ c.in_default.is)
 
 pub returns : goal.returns
 returns g c =

@@ -5,4 +5,5 @@ use Rattle.audit_core.proofs.valid.are_sealed.Given as goal
 
 abbrev pub invariant-loop-k : goal.invariant-loop-k
 invariant-loop-k g l =
-    list_all (order_on (g.C.Checker.meaning l.checker) l.blocks l.view) l.view.orders ≡ list_all (order_on (g.C.Checker.meaning l.checker) l.blocks l.view) (drop l.k l.view.orders)
+    list_all (order_on (g.C.Checker.meaning l.checker) l.blocks l.view) l.view.orders
+    ≡ list_all (order_on (g.C.Checker.meaning l.checker) l.blocks l.view) (drop l.k l.view.orders)

@@ -43,7 +43,8 @@ alone x i j d less inside = absurd (omega arith)
 
 replicas : AreReplicas 5 (0 ∷ 1 ∷ 2 ∷ 4 ∷ [])
 replicas = record {
-  distinct = AllPairs-cons (λ (a b : ℕ). a ≢ b) 0 (1 ∷ 2 ∷ 4 ∷ []) (All-from_recursion (λ (b : ℕ). 0 ≢ b) (1 ∷ 2 ∷ 4 ∷ []) ((omega arith), ((omega arith), ((omega arith), tt))))
+  distinct = AllPairs-cons (λ (a b : ℕ). a ≢ b) 0 (1 ∷ 2 ∷ 4 ∷ [])
+      (All-from_recursion (λ (b : ℕ). 0 ≢ b) (1 ∷ 2 ∷ 4 ∷ []) ((omega arith), ((omega arith), ((omega arith), tt))))
       (AllPairs-cons (λ (a b : ℕ). a ≢ b) 1 (2 ∷ 4 ∷ []) (All-from_recursion (λ (b : ℕ). 1 ≢ b) (2 ∷ 4 ∷ []) ((omega arith), ((omega arith), tt)))
       (AllPairs-cons (λ (a b : ℕ). a ≢ b) 2 (4 ∷ []) (All-from_recursion (λ (b : ℕ). 2 ≢ b) (4 ∷ []) ((omega arith), tt)) (alone 4)));
   below = All-from_recursion (λ (r : ℕ). r < 5) (0 ∷ 1 ∷ 2 ∷ 4 ∷ []) ((omega arith), ((omega arith), ((omega arith), ((omega arith), tt))));
@@ -72,7 +73,8 @@ used zero one t stands = (
 )
 used (suc number) one t stands = absurd (cc)
 
-waiting : (number : ℕ) (one : Placed) (t : Tx) → slice_get (opening ∷ []) number ≡ Some one → (one.waiting t ≡ true) ↔ IsMissingBefore five (opening ∷ []) number t
+waiting : (number : ℕ) (one : Placed) (t : Tx) → slice_get (opening ∷ []) number ≡ Some one
+    → (one.waiting t ≡ true) ↔ IsMissingBefore five (opening ∷ []) number t
 waiting zero one t stands = (
   (λ is. absurd (false≢true (ap (λ (x : Placed). x.waiting t) (same_Some opening one stands) ∙ is))),
   (λ earlier. let more : earlier.proposer + 1 + earlier.rest ≡ 0 = earlier.before in absurd (omega arith)),
@@ -91,7 +93,9 @@ all_lists [] = All-nil (λ (list : List Tx). All (λ (t : Tx). opening.used t �
 all_lists (x ∷ lists) = All-cons (λ (list : List Tx). All (λ (t : Tx). opening.used t ≡ false) list) x lists (all_unused x) (all_lists lists)
 
 pub returns-clause-unused : goal.returns-clause-unused
-returns-clause-unused c = All-from_recursion (λ (one : Placed). All (λ (list : List Tx). All (λ (t : Tx). one.used t ≡ false) list) (fresh_lists one)) (opening ∷ []) (all_lists (fresh_lists opening), tt)
+returns-clause-unused c =
+    All-from_recursion (λ (one : Placed). All (λ (list : List Tx). All (λ (t : Tx). one.used t ≡ false) list) (fresh_lists one))
+    (opening ∷ []) (all_lists (fresh_lists opening), tt)
 
 pub returns-clause-batches : goal.returns-clause-batches
 returns-clause-batches c = opening_is_final

@@ -10,7 +10,8 @@ use Rattle.chain_state.proofs.drawing.first_unused.Goals.{then-not-is_used+in_ok
 
 pub returns-then-len-eq-MAX_FRESH : goal.returns-then-len-eq-MAX_FRESH
 returns-then-len-eq-MAX_FRESH c =
-    drawn_full (λ (t : Tx). not (is_used c.args.chain.now t)) c.args.prefix.now _ c.loop-tx.tx-index 128 c.loop-tx.invariant.drawn (omega (arith, c.len.ensures, c.if-len-eq-MAX_FRESH.true))
+    drawn_full (λ (t : Tx). not (is_used c.args.chain.now t)) c.args.prefix.now _ c.loop-tx.tx-index 128 c.loop-tx.invariant.drawn
+    (omega (arith, c.len.ensures, c.if-len-eq-MAX_FRESH.true))
 
 pub loop-tx-preserved : goal.loop-tx-preserved
 loop-tx-preserved c =
@@ -24,17 +25,20 @@ loop-tx-preserved c =
       | then-not-is_used+in_ok-push w ↦
           let one : p (get_or xs i d) ≡ true = ap not (sym w.if-not-is_used.ensures) in
           record {
-            drawn = rw (w.txs-is, w.in_ok-push.ensures.items, c.loop-tx.invariant.drawn) (sym (more ∙ ap (λ (b : Bool). filter p (take i xs) ++ cond b (get_or xs i d ∷ []) []) one));
+            drawn = rw (w.txs-is, w.in_ok-push.ensures.items, c.loop-tx.invariant.drawn)
+                (sym (more ∙ ap (λ (b : Bool). filter p (take i xs) ++ cond b (get_or xs i d ∷ []) []) one));
             few = rw (w.txs-is, w.in_ok-push.ensures.items) (omega (arith, length-append {A = Tx}, room));
           }
       | else-not-is_used w ↦
           let none : p (get_or xs i d) ≡ false = ap not (sym w.if-not-is_used.ensures) in
           record {
-            drawn = rw (w.txs-is, c.loop-tx.invariant.drawn) (sym (more ∙ ap (λ (b : Bool). filter p (take i xs) ++ cond b (get_or xs i d ∷ []) []) none ∙ append-nil (filter p (take i xs))));
+            drawn = rw (w.txs-is, c.loop-tx.invariant.drawn)
+                (sym (more ∙ ap (λ (b : Bool). filter p (take i xs) ++ cond b (get_or xs i d ∷ []) []) none ∙ append-nil (filter p (take i xs))));
             few = rw w.txs-is c.loop-tx.invariant.few;
           }
     ]
 
 pub returns : goal.returns
 returns c =
-    drawn_all (λ (t : Tx). not (is_used c.args.chain.now t)) c.args.prefix.now _ c.loop-tx.tx-index 128 c.loop-tx.invariant.drawn c.loop-tx.invariant.few (omega (arith, c.loop-tx-test.false))
+    drawn_all (λ (t : Tx). not (is_used c.args.chain.now t)) c.args.prefix.now _ c.loop-tx.tx-index 128 c.loop-tx.invariant.drawn
+    c.loop-tx.invariant.few (omega (arith, c.loop-tx-test.false))

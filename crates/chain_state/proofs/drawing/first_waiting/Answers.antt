@@ -10,7 +10,8 @@ use Rattle.chain_state.proofs.drawing.first_waiting.Goals.{then-is_waiting+in_ok
 
 pub returns-then-len-eq-MAX_LATE : goal.returns-then-len-eq-MAX_LATE
 returns-then-len-eq-MAX_LATE c =
-    drawn_full (λ (t : Tx). is_waiting c.args.chain.now t) c.args.prefix.now _ c.loop-tx.tx-index 256 c.loop-tx.invariant.drawn (omega (arith, c.len.ensures, c.if-len-eq-MAX_LATE.true))
+    drawn_full (λ (t : Tx). is_waiting c.args.chain.now t) c.args.prefix.now _ c.loop-tx.tx-index 256 c.loop-tx.invariant.drawn
+    (omega (arith, c.len.ensures, c.if-len-eq-MAX_LATE.true))
 
 pub loop-tx-preserved : goal.loop-tx-preserved
 loop-tx-preserved c =
@@ -24,17 +25,20 @@ loop-tx-preserved c =
       | then-is_waiting+in_ok-push w ↦
           let one : p (get_or xs i d) ≡ true = sym w.if-is_waiting.ensures in
           record {
-            drawn = rw (w.txs-is, w.in_ok-push.ensures.items, c.loop-tx.invariant.drawn) (sym (more ∙ ap (λ (b : Bool). filter p (take i xs) ++ cond b (get_or xs i d ∷ []) []) one));
+            drawn = rw (w.txs-is, w.in_ok-push.ensures.items, c.loop-tx.invariant.drawn)
+                (sym (more ∙ ap (λ (b : Bool). filter p (take i xs) ++ cond b (get_or xs i d ∷ []) []) one));
             few = rw (w.txs-is, w.in_ok-push.ensures.items) (omega (arith, length-append {A = Tx}, room));
           }
       | else-is_waiting w ↦
           let none : p (get_or xs i d) ≡ false = sym w.if-is_waiting.ensures in
           record {
-            drawn = rw (w.txs-is, c.loop-tx.invariant.drawn) (sym (more ∙ ap (λ (b : Bool). filter p (take i xs) ++ cond b (get_or xs i d ∷ []) []) none ∙ append-nil (filter p (take i xs))));
+            drawn = rw (w.txs-is, c.loop-tx.invariant.drawn)
+                (sym (more ∙ ap (λ (b : Bool). filter p (take i xs) ++ cond b (get_or xs i d ∷ []) []) none ∙ append-nil (filter p (take i xs))));
             few = rw w.txs-is c.loop-tx.invariant.few;
           }
     ]
 
 pub returns : goal.returns
 returns c =
-    drawn_all (λ (t : Tx). is_waiting c.args.chain.now t) c.args.prefix.now _ c.loop-tx.tx-index 256 c.loop-tx.invariant.drawn c.loop-tx.invariant.few (omega (arith, c.loop-tx-test.false))
+    drawn_all (λ (t : Tx). is_waiting c.args.chain.now t) c.args.prefix.now _ c.loop-tx.tx-index 256 c.loop-tx.invariant.drawn
+    c.loop-tx.invariant.few (omega (arith, c.loop-tx-test.false))

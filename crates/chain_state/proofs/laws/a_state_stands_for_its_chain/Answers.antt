@@ -4,4 +4,13 @@ use Rattle.chain_state.proofs.Within.{lists_are_fresh}
 use Rattle.chain_state.proofs.laws.a_state_stands_for_its_chain.Goals as goal
 
 pub returns : goal.returns
-returns c = record { empty = λ s. refl; step = standing-more; all = all_stand; short = lists_are_fresh; used = used_stands; waiting = waiting_stands; finals = final_stands }
+returns c =
+    record {
+      empty = λ s. refl;
+      step = standing-more;
+      all = all_stand;
+      short = lists_are_fresh;
+      used = used_stands;
+      waiting = waiting_stands;
+      finals = final_stands;
+    }

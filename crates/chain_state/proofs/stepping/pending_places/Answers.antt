@@ -14,10 +14,12 @@ loop-step-preserved c =
     let i = c.loop-step.step-index in
     let x = c.step-item.result in
     let more : still_pending (map placed (take (i + 1) xs)) ≡ still_pending (map placed (take i xs) ++ placed x ∷ []) =
-    ap still_pending (map_more placed xs i x (omega arith)) ∙ ap (λ (s : Stepped). still_pending (map placed (take i xs) ++ placed s ∷ [])) (sym c.step-item.is) in
+    ap still_pending (map_more placed xs i x (omega arith))
+    ∙ ap (λ (s : Stepped). still_pending (map placed (take i xs) ++ placed s ∷ [])) (sym c.step-item.is) in
     elim c.if-is_pending.branch [
       | then-is_pending+in_ok-push w ↦
-          rw (w.places-is, w.in_ok-push.ensures.items, c.loop-step.invariant) (sym (more ∙ still_more (map placed (take i xs)) x.place (shown x.standing) (sym w.if-is_pending.ensures)))
+          rw (w.places-is, w.in_ok-push.ensures.items, c.loop-step.invariant)
+          (sym (more ∙ still_more (map placed (take i xs)) x.place (shown x.standing) (sym w.if-is_pending.ensures)))
       | else-is_pending w ↦
           rw (w.places-is, c.loop-step.invariant) (sym (more ∙ still_same (map placed (take i xs)) x.place (shown x.standing) (sym w.if-is_pending.ensures)))
     ]
@@ -25,10 +27,13 @@ loop-step-preserved c =
 pub returns : goal.returns
 returns c =
     let all : c.loop-step.places.items ≡ still_pending (map placed c.args.stepped.now) =
-    c.loop-step.invariant ∙ ap (λ (xs : List Stepped). still_pending (map placed xs)) (take_all c.loop-step.step-index c.args.stepped.now (omega (arith, c.loop-step-test.false))) in
+    c.loop-step.invariant
+    ∙ ap (λ (xs : List Stepped). still_pending (map placed xs))
+    (take_all c.loop-step.step-index c.args.stepped.now (omega (arith, c.loop-step-test.false))) in
     elim c.if-is_pending-2.branch [
       | then-is_pending-2+in_ok-push-2 w ↦
-          rw (w.places-is, w.in_ok-push-2.ensures.items, all) (sym (still_more (map placed c.args.stepped.now) c.args.place (shown c.args.own.now) (sym w.if-is_pending-2.ensures)))
+          rw (w.places-is, w.in_ok-push-2.ensures.items, all)
+          (sym (still_more (map placed c.args.stepped.now) c.args.place (shown c.args.own.now) (sym w.if-is_pending-2.ensures)))
       | else-is_pending-2 w ↦
           rw (w.places-is, all) (sym (still_same (map placed c.args.stepped.now) c.args.place (shown c.args.own.now) (sym w.if-is_pending-2.ensures)))
     ]

@@ -5,10 +5,12 @@ use Rattle.client_logs.proofs.client.submit_at.Goals as goal
 
 pub submit-requires : goal.submit-requires
 submit-requires g c =
-    let there = zip_at IsPassOf c.args.logs.now c.args.passes.now.items c.args.k c.index-logs-k.result c.index_mut.result.now c.requires.own c.requires.place.1 in
+    let there = zip_at IsPassOf c.args.logs.now c.args.passes.now.items c.args.k c.index-logs-k.result c.index_mut.result.now
+    c.requires.own c.requires.place.1 in
     search rules
 
 pub returns-clause-own : goal.returns-clause-own
 returns-clause-own g c =
-    let there = zip_at IsPassOf c.args.logs.now c.args.passes.now.items c.args.k c.index-logs-k.result c.index_mut.result.now c.requires.own c.requires.place.1 in
+    let there = zip_at IsPassOf c.args.logs.now c.args.passes.now.items c.args.k c.index-logs-k.result c.index_mut.result.now
+    c.requires.own c.requires.place.1 in
     zip_set IsPassOf c.args.logs.now c.args.passes.now.items c.args.k c.index-logs-k.result _ c.requires.own (search rules)

@@ -22,7 +22,8 @@ take-requires-clause-suits c =
 pub loop-step-smaller : goal.loop-step-smaller
 loop-step-smaller c =
     let right = rw c.deref.ensures.value at c.in-Some.ensures.step in
-    (advance c.args.graph.now c.loop-step.pass c.take.new.self c.in-Some.step c.len.ensures.graph.rows c.loop-step.invariant.pass right c.in_ok-take.ensures.moves).nearer
+    (advance c.args.graph.now c.loop-step.pass c.take.new.self c.in-Some.step c.len.ensures.graph.rows c.loop-step.invariant.pass right
+    c.in_ok-take.ensures.moves).nearer
 
 pub loop-step-preserved : goal.loop-step-preserved
 loop-step-preserved c =
@@ -52,4 +53,5 @@ returns c =
     let numbers : c.in_ok-numbers_of.field-0.items ≡ map number_of pass.places.items = rw c.deref-2.ensures.value at c.in_ok-numbers_of.ensures in
     let path : IsPath c.args.graph.now pass.places.items 0 pass.count =
     subst (λ (d : ℕ). IsPath c.args.graph.now pass.places.items d pass.count) none.0 c.loop-step.invariant.pass.path in
-    found c.args.graph.now pass.places.items pass.count (record { numbers = c.in_ok-numbers_of.field-0.items; count = pass.count }) c.loop-step.invariant.pass.same_length path none.1 numbers refl
+    found c.args.graph.now pass.places.items pass.count (record { numbers = c.in_ok-numbers_of.field-0.items; count = pass.count })
+    c.loop-step.invariant.pass.same_length path none.1 numbers refl

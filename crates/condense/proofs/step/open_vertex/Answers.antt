@@ -3,7 +3,8 @@ use Rattle.condense.proofs.Stacking.{entry_inside, none_open}
 use Rattle.condense.proofs.step.open_vertex.Goals as goal
 
 pub bounds-places-at : goal.bounds-places-at
-bounds-places-at c = entry_inside c.args.places.now (c.args.top + 1) c.args.path.now c.requires (c.loop-left.left - 1) (omega (arith, c.loop-left.invariant.short))
+bounds-places-at c = entry_inside c.args.places.now (c.args.top + 1) c.args.path.now c.requires (c.loop-left.left - 1)
+    (omega (arith, c.loop-left.invariant.short))
 
 pub returns-then-not-is_at-clause-none : goal.returns-then-not-is_at-clause-none
 returns-then-not-is_at-clause-none c =

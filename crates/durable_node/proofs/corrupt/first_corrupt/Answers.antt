@@ -18,4 +18,5 @@ loop-rest-preserved c =
     rw (c.split_at.ensures.back, c.record_size.ensures) read
 
 pub returns-clause-good : goal.returns-clause-good
-returns-clause-good c = good_scanned c.args.start.now c.args.log.now c.loop-rest.rest.now c.loop-rest.digest c.loop-rest.invariant (c.loop-rest-test.ensures.0 refl)
+returns-clause-good c = good_scanned c.args.start.now c.args.log.now c.loop-rest.rest.now c.loop-rest.digest c.loop-rest.invariant
+    (c.loop-rest-test.ensures.0 refl)

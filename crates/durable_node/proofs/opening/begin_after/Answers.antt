@@ -18,14 +18,16 @@ pub returns-then-size-lt-HEADER_BYTES-clause-unopened : goal.returns-then-size-l
 returns-then-size-lt-HEADER_BYTES-clause-unopened g c =
     let old = g.K.Keeper.bytes c.args.keeper.now in
     let short : length old < 76 = omega (arith, c.if-size-lt-HEADER_BYTES.true, c.requires.size) in
-    on_err_weaker c.write_header.result (λ once. opened_once _ old _ _ (own_short c.args.header.now old c.requires.sized c.requires.own short) once) c.write_header.ensures.once
+    on_err_weaker c.write_header.result
+    (λ once. opened_once _ old _ _ (own_short c.args.header.now old c.requires.sized c.requires.own short) once) c.write_header.ensures.once
 
 pub returns-then-size-lt-HEADER_BYTES-clause-refused : goal.returns-then-size-lt-HEADER_BYTES-clause-refused
 returns-then-size-lt-HEADER_BYTES-clause-refused g c = λ events prefix.
     let old = g.K.Keeper.bytes c.args.keeper.now in
     let short : length old < 76 = omega (arith, c.if-size-lt-HEADER_BYTES.true, c.requires.size) in
     let torn = own_short c.args.header.now old c.requires.sized c.requires.own short in
-    on_err_weaker c.write_header.result (λ is. held_torn c.args.header.now old _ _ _ c.requires.sized c.requires.own short is) (c.write_header.ensures.torn torn.1)
+    on_err_weaker c.write_header.result (λ is. held_torn c.args.header.now old _ _ _ c.requires.sized c.requires.own short is)
+    (c.write_header.ensures.torn torn.1)
 
 -- ---- a log with the header
 
@@ -43,7 +45,8 @@ pub returns-in_err-begin-clause-refused : goal.returns-in_err-begin-clause-refus
 returns-in_err-begin-clause-refused g c = λ events prefix.
     let old = g.K.Keeper.bytes c.args.keeper.now in
     let long : 76 ≤ length old = omega (arith, c.if-size-lt-HEADER_BYTES.false, c.requires.size) in
-    on_err _ _ (held_after c.args.header.now old _ _ _ events c.args.whole c.requires.own long prefix c.in_err-begin.ensures.refused c.in_err-begin.ensures.falls)
+    on_err _ _ (held_after c.args.header.now old _ _ _ events c.args.whole c.requires.own long prefix c.in_err-begin.ensures.refused
+    c.in_err-begin.ensures.falls)
 
 pub returns-in_ok-begin-clause-kept : goal.returns-in_ok-begin-clause-kept
 returns-in_ok-begin-clause-kept g c =

@@ -5,7 +5,8 @@ use Rattle.durable_node.proofs.opening.whole_records.Goals as goal
 
 pub overflow_add-result : goal.overflow_add-result
 overflow_add-result c =
-    let within = bad_within c.args.start.now c.args.records.now c.in-Err-Bad.at (c.in-Err-Bad.ensures.bad c.in-Err-Bad.at (ap (λ (f : LogFault). Err f) c.in-Err-Bad.field-0-is)) in
+    let within = bad_within c.args.start.now c.args.records.now c.in-Err-Bad.at
+    (c.in-Err-Bad.ensures.bad c.in-Err-Bad.at (ap (λ (f : LogFault). Err f) c.in-Err-Bad.field-0-is)) in
     omega (arith, within)
 
 pub returns-in-Err-NoMemory-clause-refused : goal.returns-in-Err-NoMemory-clause-refused

@@ -8,8 +8,11 @@ pub returns-clause-batches : goal.returns-clause-batches
 returns-clause-batches c =
     let groups = c.in_ok-groups.groups in
     let is = rw (c.as_slice.ensures.value, c.as_slice-2.ensures, c.count.ensures) at c.in_ok-batches.ensures in
-    is ∙ lists_are_batches_of c.args.proposal.now c.as_slice.ensures.graph c.requires groups.numbers groups.count c.in_ok-groups.ensures.each c.in_ok-groups.ensures.line
+    is
+    ∙ lists_are_batches_of c.args.proposal.now c.as_slice.ensures.graph c.requires groups.numbers groups.count
+    c.in_ok-groups.ensures.each c.in_ok-groups.ensures.line
 
 pub returns-clause-are_batches : goal.returns-clause-are_batches
 returns-clause-are_batches c =
-    subst (λ (bs : List (List Tx)). AreBatches c.args.proposal.now bs) (sym (returns-clause-batches c)) (are_batches_of c.args.proposal.now c.as_slice.ensures.graph c.requires)
+    subst (λ (bs : List (List Tx)). AreBatches c.args.proposal.now bs) (sym (returns-clause-batches c))
+    (are_batches_of c.args.proposal.now c.as_slice.ensures.graph c.requires)

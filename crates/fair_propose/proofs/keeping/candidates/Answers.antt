@@ -18,8 +18,10 @@ loop-tx-preserved c =
     elim c.if-is_candidate.branch [
       | then-is_candidate+in_ok-push w ↦
           let one : p (get_or xs i d) ≡ true = sym w.if-is_candidate.ensures in
-          rw (w.candidates-is, w.in_ok-push.ensures.items, c.loop-tx.invariant) (sym (more ∙ ap (λ (b : Bool). filter p (take i xs) ++ cond b (get_or xs i d ∷ []) []) one))
+          rw (w.candidates-is, w.in_ok-push.ensures.items, c.loop-tx.invariant)
+          (sym (more ∙ ap (λ (b : Bool). filter p (take i xs) ++ cond b (get_or xs i d ∷ []) []) one))
       | else-is_candidate w ↦
           let none : p (get_or xs i d) ≡ false = sym w.if-is_candidate.ensures in
-          rw (w.candidates-is, c.loop-tx.invariant) (sym (more ∙ ap (λ (b : Bool). filter p (take i xs) ++ cond b (get_or xs i d ∷ []) []) none ∙ append-nil (filter p (take i xs))))
+          rw (w.candidates-is, c.loop-tx.invariant)
+          (sym (more ∙ ap (λ (b : Bool). filter p (take i xs) ++ cond b (get_or xs i d ∷ []) []) none ∙ append-nil (filter p (take i xs))))
     ]

@@ -14,7 +14,11 @@ weigh-requires-clause-ascending c =
 
 pub weigh-requires-clause-few : goal.weigh-requires-clause-few
 weigh-requires-clause-few c =
-    omega (arith, ap length (c.of.ensures ∙ all_counted c.args.proposal.now _ _ c.in_ok-ranked.ensures.counted), waiting_few c.args.proposal.now c.in_ok-ranked.ensures.graph)
+    omega (
+      arith,
+      ap length (c.of.ensures ∙ all_counted c.args.proposal.now _ _ c.in_ok-ranked.ensures.counted),
+      waiting_few c.args.proposal.now c.in_ok-ranked.ensures.graph,
+    )
 
 pub merge-requires : goal.merge-requires
 merge-requires c =
@@ -29,4 +33,5 @@ returns-clause-updated c =
     (same ∙ c.of.ensures ∙ all_counted c.args.proposal.now _ _ c.in_ok-ranked.ensures.counted)) in
     merged_is_updated c.args.setting.now c.args.late.now c.args.proposal.now c.in_ok-given.given c.merge.new.proposal c.deref.result.now
     c.in_ok-ranked.ensures.graph c.merge.ensures.graph ranked
-    (λ u v a b one two. c.in_ok-given.ensures.edges u v a b (ap (λ (ts : List Tx). slice_get ts u) (sym same) ∙ one) (ap (λ (ts : List Tx). slice_get ts v) (sym same) ∙ two)) c.merge.ensures.merged
+    (λ u v a b one two. c.in_ok-given.ensures.edges u v a b (ap (λ (ts : List Tx). slice_get ts u) (sym same) ∙ one)
+    (ap (λ (ts : List Tx). slice_get ts v) (sym same) ∙ two)) c.merge.ensures.merged

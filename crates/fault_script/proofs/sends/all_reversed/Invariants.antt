@@ -9,8 +9,10 @@ invariant-loop-send g l =
     let s = g.S.Sealer in
     record {
       so_far :
-          through (reverse_of l.deeds) (signer (s.replica l.sealer) (s.capacity l.sealer) (s.gives l.sealer) (s.made l.sealer)) l.out.items (into_iter_items l.send-iterator)
-          ≡ through (reverse_of l.deeds) (signer (s.replica l.initial.sealer) (s.capacity l.initial.sealer) (s.gives l.initial.sealer) (s.made l.initial.sealer)) [] l.fn.sends.items;
+          through (reverse_of l.deeds) (signer (s.replica l.sealer) (s.capacity l.sealer) (s.gives l.sealer) (s.made l.sealer)) l.out.items
+          (into_iter_items l.send-iterator)
+          ≡ through (reverse_of l.deeds)
+          (signer (s.replica l.initial.sealer) (s.capacity l.initial.sealer) (s.gives l.initial.sealer) (s.made l.initial.sealer)) [] l.fn.sends.items;
       left : into_iter_len l.send-iterator ≡ length (into_iter_items l.send-iterator);
       sealer : SealsOn s.replica s.capacity s.gives s.made l.initial.sealer l.sealer;
     }

@@ -16,4 +16,5 @@ laws c = record {
 }
 
 pub returns : goal.returns
-returns c = λ fits run r before more after sound honest is. stays (laws c) c.longer_chains_have_longer_lists.ensures c.locks_and_commits_move_as_seen.ensures.commit fits run sound r honest before more after is
+returns c = λ fits run r before more after sound honest is. stays (laws c) c.longer_chains_have_longer_lists.ensures
+    c.locks_and_commits_move_as_seen.ensures.commit fits run sound r honest before more after is

@@ -11,4 +11,6 @@ pub returns : goal.returns
 returns c = λ secret.
     let whole = c.logs_are_read_back.ensures.whole in
     let one = c.logs_are_read_back.ensures.one_prefix in
-    torn_run c.records_continue_logs.ensures.records secret (lone_checker secret) refl (turned secret) (header_digest (header_for (lone_role secret))) (found whole one secret) (digest_is whole one secret) (none_found whole one secret) (reopened one secret (found whole one secret))
+    torn_run c.records_continue_logs.ensures.records secret (lone_checker secret) refl (turned secret)
+    (header_digest (header_for (lone_role secret))) (found whole one secret) (digest_is whole one secret) (none_found whole one secret)
+    (reopened one secret (found whole one secret))

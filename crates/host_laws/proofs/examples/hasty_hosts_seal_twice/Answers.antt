@@ -10,4 +10,5 @@ pub returns : goal.returns
 returns c = λ secret.
     let whole = c.logs_are_read_back.ensures.whole in
     let one = c.logs_are_read_back.ensures.one_prefix in
-    seals_twice secret (lone_checker secret) refl (turned secret) (header_digest (header_for (lone_role secret))) (found whole one secret) (digest_is whole one secret)
+    seals_twice secret (lone_checker secret) refl (turned secret) (header_digest (header_for (lone_role secret))) (found whole one secret)
+    (digest_is whole one secret)

@@ -4,7 +4,8 @@ use Rattle.std.proofs.lemmas.List.{append-nil, map-append, nil_from_length}
 use Rattle.hss_seal.proofs.maker.all_grown.Goals as goal
 
 -- one more is taken from the front of those that are left
-one_more_grown : {T E : Type 0} (keys now : List T) (key : T) (item : Result T E) (left rest grown : List (Result T E)) → now ≡ keys ++ key ∷ [] → item ≡ Ok key → left ≡ item ∷ rest
+one_more_grown : {T E : Type 0} (keys now : List T) (key : T) (item : Result T E) (left rest grown : List (Result T E))
+    → now ≡ keys ++ key ∷ [] → item ≡ Ok key → left ≡ item ∷ rest
     → map Ok keys ++ left ≡ grown → map Ok now ++ rest ≡ grown
 one_more_grown keys now key item left rest grown pushed is prefix so_far =
     ap (λ ks. map Ok ks ++ rest) pushed
@@ -18,7 +19,8 @@ pub loop-key-preserved : goal.loop-key-preserved
 loop-key-preserved g c =
     let steps = c.in-Some.ensures.steps in
     record {
-      so_far = one_more_grown c.loop-key.keys.items c.push.new.self.items c.in_ok-key.field-0 c.in-Some.key _ _ c.args.grown.items c.in_ok-push.ensures.items c.in_ok-key.was steps.0 c.loop-key.invariant.so_far;
+      so_far = one_more_grown c.loop-key.keys.items c.push.new.self.items c.in_ok-key.field-0 c.in-Some.key _ _ c.args.grown.items
+          c.in_ok-push.ensures.items c.in_ok-key.was steps.0 c.loop-key.invariant.so_far;
       left = omega (arith, ap length steps.0, steps.1, c.loop-key.invariant.left);
     }
 

@@ -10,5 +10,7 @@ returns g c =
     let height = c.args.height in
     let sealers = c.in_ok-all_grown.field-0.items in
     let are : sealers ≡ drawn_sealers seed height c.args.n =
-    all_are (drawn_sealer seed height) c.args.n sealers c.in_ok-grown.grown.items c.in_ok-all_grown.ensures c.in_ok-grown.ensures.count c.in_ok-grown.ensures.each in
-    both_ok c.kit_of.result (λ kit same means. kit_is seed height c.args.n sealers kit.sealers.items kit.checker are same means) c.kit_of.ensures.sealers c.kit_of.ensures.checker
+    all_are (drawn_sealer seed height) c.args.n sealers c.in_ok-grown.grown.items c.in_ok-all_grown.ensures c.in_ok-grown.ensures.count
+    c.in_ok-grown.ensures.each in
+    both_ok c.kit_of.result (λ kit same means. kit_is seed height c.args.n sealers kit.sealers.items kit.checker are same means)
+    c.kit_of.ensures.sealers c.kit_of.ensures.checker

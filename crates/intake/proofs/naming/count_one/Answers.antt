@@ -7,7 +7,8 @@ use Rattle.intake.proofs.naming.count_one.Goals as goal
 pub returns : goal.returns
 returns c lists txs all =
     let es = c.args.counts.now.entries in
-    let found : c.unwrap_or-before.result ≡ unwrap_or (lookup (tx_eq c.args.tx.now) es) 0 = c.unwrap_or-before.ensures ∙ ap (λ o. unwrap_or o 0) (c.copied.ensures ∙ c.get.ensures.value) in
+    let found : c.unwrap_or-before.result ≡ unwrap_or (lookup (tx_eq c.args.tx.now) es) 0 =
+    c.unwrap_or-before.ensures ∙ ap (λ o. unwrap_or o 0) (c.copied.ensures ∙ c.get.ensures.value) in
     let bound : c.saturating_add.result ≤ c.unwrap_or-before.result + 1 = omega (arith, c.saturating_add.ensures) in
     let room : min (c.unwrap_or-before.result + 1) 4294967295 ≤ c.saturating_add.result = omega (arith, c.saturating_add.ensures) in
     rw (c.in_ok-insert.ensures.entries)

@@ -11,5 +11,6 @@ loop-list-preserved c =
     let xs = c.args.lists.now in
     let i = c.loop-list.list-index in
     let own = c.as_slice.ensures.value ∙ ap txs c.list-item.is in
-    subst (λ (lists : List (List Tx)). AreCounted lists c.count.new.counts.entries) (ap (λ (last : List Tx). map txs (take i xs) ++ last ∷ []) own ∙ sym (map_more txs xs i c.list-item.result c.loop-list-test.true))
+    subst (λ (lists : List (List Tx)). AreCounted lists c.count.new.counts.entries)
+    (ap (λ (last : List Tx). map txs (take i xs) ++ last ∷ []) own ∙ sym (map_more txs xs i c.list-item.result c.loop-list-test.true))
     (c.in_ok-count.ensures (map txs (take i xs)) c.loop-list.invariant)

@@ -33,5 +33,6 @@ pub returns : goal.returns
 returns c = record {
   heard = λ fits run a b sound shown r number j honest. c.the_headline_holds.ensures.fair fits run sound r number j a b honest
       (received run a b sound.lawful.valid (over_restarts run a b sound.lawful.valid shown));
-  shown = λ fits run a b sound shown r number j honest. c.the_headline_holds.ensures.fair fits run sound r number j a b honest (received run a b sound.lawful.valid shown);
+  shown = λ fits run a b sound shown r number j honest.
+      c.the_headline_holds.ensures.fair fits run sound r number j a b honest (received run a b sound.lawful.valid shown);
 }

@@ -5,5 +5,6 @@ use Rattle.intake_laws.proofs.receipts.receipts_decide_arrivals.Goals as goal
 pub returns : goal.returns
 returns c = record {
   first = decided;
-  received = λ s faulty late history stamp a b valid premises. all_received s faulty (arrivals_of s history) a b valid (decided s faulty late history stamp a b valid premises);
+  received = λ s faulty late history stamp a b valid premises.
+      all_received s faulty (arrivals_of s history) a b valid (decided s faulty late history stamp a b valid premises);
 }

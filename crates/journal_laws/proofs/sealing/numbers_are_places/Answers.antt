@@ -6,6 +6,8 @@ use Rattle.journal_laws.proofs.sealing.numbers_are_places.Goals as goal
 
 pub returns : goal.returns
 returns c = record {
-  counted = λ fits gives s views me capacity events wide room. let places = counted fits gives (fresh_known s views me) 0 capacity events (opens s views me wide) (omega arith) room in omega (arith, places);
-  alone = λ fits gives s views me capacity events wide room other same. alike_run gives other fits (fresh_known s views me) 0 capacity events (opens s views me wide) (omega arith) room same;
+  counted = λ fits gives s views me capacity events wide room. let places =
+      counted fits gives (fresh_known s views me) 0 capacity events (opens s views me wide) (omega arith) room in omega (arith, places);
+  alone = λ fits gives s views me capacity events wide room other same.
+      alike_run gives other fits (fresh_known s views me) 0 capacity events (opens s views me wide) (omega arith) room same;
 }

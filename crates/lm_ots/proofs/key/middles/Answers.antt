@@ -27,6 +27,7 @@ loop-index-preserved c =
 pub returns : goal.returns
 returns c =
     let all : c.loop-index.index ≡ 67 = omega arith in
-    let whole : take c.loop-index.index c.loop-index.middles ≡ c.loop-index.middles = take_all c.loop-index.index c.loop-index.middles (omega (arith, c.loop-index.invariant.0)) in
+    let whole : take c.loop-index.index c.loop-index.middles ≡ c.loop-index.middles =
+    take_all c.loop-index.index c.loop-index.middles (omega (arith, c.loop-index.invariant.0)) in
     sym whole ∙ c.loop-index.invariant.1
     ∙ ap (λ (n : ℕ). parts_of n (middle_part c.args.id.now c.args.leaf c.args.seed.now)) all

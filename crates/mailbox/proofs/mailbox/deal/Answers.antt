@@ -12,5 +12,7 @@ loop-from-preserved c =
     let pass = c.another-pass.result in (
       made.queue.0,
       made.rule.0 ∙ ap dealt c.loop-from.invariant.1,
-      dealt_more c.args.queue.now c.loop-from.from c.loop-from.passes.items c.push.new.self.items record { box = record { web = pass.web; heap = pass.heap }; from = c.loop-from.from; sent = pass.me.view.client.sent } c.loop-from.invariant.2 (search rules) made.queue.2.0.0 made.queue.2.0.1 refl (ap (λ v. v.sent) made.rule.1),
+      dealt_more c.args.queue.now c.loop-from.from c.loop-from.passes.items c.push.new.self.items
+          record { box = record { web = pass.web; heap = pass.heap }; from = c.loop-from.from; sent = pass.me.view.client.sent }
+          c.loop-from.invariant.2 (search rules) made.queue.2.0.0 made.queue.2.0.1 refl (ap (λ v. v.sent) made.rule.1),
     )

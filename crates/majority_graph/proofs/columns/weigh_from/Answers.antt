@@ -6,7 +6,8 @@ use Rattle.majority_graph.proofs.columns.weigh_from.Goals.{After-deref}
 long : (c : After-deref) → length c.deref.result.now ≡ length c.args.forward.now
 long c =
     ap length c.deref.ensures.value
-    ∙ column_long c.args.columns.now (length c.args.forward.now) c.loop-column.column-index c.column-item.result c.requires.columns (omega arith) c.column-item.is
+    ∙ column_long c.args.columns.now (length c.args.forward.now) c.loop-column.column-index c.column-item.result c.requires.columns
+    (omega arith) c.column-item.is
 
 pub add_list-requires-clause-forward : goal.add_list-requires-clause-forward
 add_list-requires-clause-forward c = c.loop-column.invariant.long_forward ∙ sym (long (goal.at.add_list-requires-clause-forward c).After-deref)

@@ -18,5 +18,6 @@ loop-at-preserved c =
           rw w.kept-is (row_kept c.args.wanted.now c.args.rows.now c.loop-at.kept.items _ c.loop-at.at w.index-rows-at.result w.in_ok-wanted_items.field-0
           (omega arith) (omega (arith, c.requires.rows)) w.if-is_wanted.true w.index-rows-at.is w.in_ok-push.ensures.items
           (w.in_ok-wanted_items.ensures ∙ ap (wanted_of c.args.wanted.now) w.deref.ensures.value) c.loop-at.invariant)
-      | else-is_wanted w ↦ rw w.kept-is (row_left c.args.wanted.now c.args.rows.now c.loop-at.kept.items c.loop-at.at (omega arith) w.if-is_wanted.false c.loop-at.invariant)
+      | else-is_wanted w ↦ rw w.kept-is
+          (row_left c.args.wanted.now c.args.rows.now c.loop-at.kept.items c.loop-at.at (omega arith) w.if-is_wanted.false c.loop-at.invariant)
     ]

@@ -15,7 +15,8 @@ loop-at-preserved c =
     elim c.if-wanted-at.branch [
       | then-wanted-at w ↦
           rw (w.ranked-is, w.count-is, w.swap.ensures.after) (record {
-            prefix = gathered ws old xs count at c.requires (omega arith) c.loop-at.invariant.few c.loop-at.invariant.same_length w.if-wanted-at.true c.loop-at.invariant.prefix c.loop-at.invariant.rest;
+            prefix = gathered ws old xs count at c.requires (omega arith) c.loop-at.invariant.few c.loop-at.invariant.same_length
+                w.if-wanted-at.true c.loop-at.invariant.prefix c.loop-at.invariant.rest;
             rest = others_left old xs count at (omega (arith, c.requires, c.loop-at.invariant.same_length)) c.loop-at.invariant.few c.loop-at.invariant.rest;
             few = omega (arith, c.loop-at.invariant.few);
             same_length = length-swap xs count at ∙ c.loop-at.invariant.same_length;

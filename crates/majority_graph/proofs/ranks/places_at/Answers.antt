@@ -10,7 +10,9 @@ pub loop-column-preserved : goal.loop-column-preserved
 loop-column-preserved c =
     let column = c.column-item.result in
     let at = c.args.at in
-    let within : at < length column.items = omega (arith, item_long c.args.columns.now at c.loop-column.column-index column c.requires (omega arith) c.column-item.is, column.ok.0) in
+    let within : at < length column.items =
+    omega (arith, item_long c.args.columns.now at c.loop-column.column-index column c.requires (omega arith) c.column-item.is, column.ok.0) in
     c.in_ok-push.ensures.items
-    ∙ read_more (λ (xs : List ℕ). get_or xs at 0) c.args.columns.now c.loop-column.column-index column c.loop-column.places.items _ (omega arith) c.column-item.is
+    ∙ read_more (λ (xs : List ℕ). get_or xs at 0) c.args.columns.now c.loop-column.column-index column c.loop-column.places.items
+    _ (omega arith) c.column-item.is
     (c.in_ok-narrowed.ensures.value ∙ c.index.ensures ∙ get_or_default column.items at _ 0 within) c.loop-column.invariant

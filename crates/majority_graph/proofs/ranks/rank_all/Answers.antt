@@ -15,4 +15,5 @@ loop-at-preserved c =
     let tx : Tx = get_or txs at d in
     let places : c.in_ok-places.places.items ≡ map (place tx) c.args.lists.now =
     (rw (c.deref.ensures.value, c.in_ok-columns.ensures) at c.in_ok-places.ensures) ∙ row_of_columns c.args.lists.now txs at tx d (omega arith) refl in
-    rw c.in_ok-push.ensures.items (ranked_more c.args.lists.now txs at d c.loop-at.ranked.items c.in_ok-places.places (omega arith) places c.loop-at.invariant.0 c.loop-at.invariant.1)
+    rw c.in_ok-push.ensures.items (ranked_more c.args.lists.now txs at d c.loop-at.ranked.items c.in_ok-places.places
+    (omega arith) places c.loop-at.invariant.0 c.loop-at.invariant.1)

@@ -32,8 +32,10 @@ loop-at-preserved c =
     let edges = rw c.requires.columns at c.edges_from.ensures in
     record {
       rows = rw c.in_ok-push.ensures.items
-          (next_row c.args.threshold ranked lists c.loop-at.rows.items c.in_ok-row_of.field-0 c.edges_from.new.edges c.loop-at.at c.requires.ascending c.requires.even (omega arith)
-          c.loop-at.invariant.rows long (λ v low within. edges v low (omega (arith, within, long, c.loop-at.invariant.edges))) (rw c.deref.ensures.value at c.in_ok-row_of.ensures));
+          (next_row c.args.threshold ranked lists c.loop-at.rows.items c.in_ok-row_of.field-0 c.edges_from.new.edges c.loop-at.at
+          c.requires.ascending c.requires.even (omega arith)
+          c.loop-at.invariant.rows long (λ v low within. edges v low (omega (arith, within, long, c.loop-at.invariant.edges)))
+          (rw c.deref.ensures.value at c.in_ok-row_of.ensures));
       forward = c.edges_from.auto.forward ∙ c.loop-at.invariant.forward;
       backward = c.edges_from.auto.backward ∙ c.loop-at.invariant.backward;
       edges = long;

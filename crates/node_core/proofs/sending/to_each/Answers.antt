@@ -11,4 +11,6 @@ pub loop-to-preserved : goal.loop-to-preserved
 unfolding to_it
 loop-to-preserved c =
     let start : 0 + c.loop-to.to ≡ c.loop-to.to = omega arith in
-    c.in_ok-push.ensures.items ∙ rw (c.loop-to.invariant, c.in_ok-outgoing.ensures) (sym (map-range_with_len_more (to_it c.args.packet.now) 0 c.loop-to.to c.loop-to.to start))
+    c.in_ok-push.ensures.items
+    ∙ rw (c.loop-to.invariant, c.in_ok-outgoing.ensures)
+    (sym (map-range_with_len_more (to_it c.args.packet.now) 0 c.loop-to.to c.loop-to.to start))

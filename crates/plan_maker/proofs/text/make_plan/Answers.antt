@@ -14,4 +14,5 @@ loop-replica-preserved c =
     let order : c.deref.result.now ≡ made_order c.args.seed k c.args.count = c.deref.ensures.value ∙ c.in_ok-txs.ensures in
     let written : string_bytes c.write_arrival.new.text ≡ string_bytes c.loop-replica.text ++ arrival_text k (made_order c.args.seed k c.args.count) =
     c.in_ok-write_arrival.ensures ∙ ap (λ (txs : List Tx). string_bytes c.loop-replica.text ++ arrival_text k txs) order in
-    rw add-one (grown (string_bytes c.loop-replica.text) (string_bytes c.write_arrival.new.text) (head_text c.args.seed) (arrivals_text c.args.seed c.args.count k) (arrival_text k (made_order c.args.seed k c.args.count)) c.loop-replica.invariant written)
+    rw add-one (grown (string_bytes c.loop-replica.text) (string_bytes c.write_arrival.new.text) (head_text c.args.seed)
+    (arrivals_text c.args.seed c.args.count k) (arrival_text k (made_order c.args.seed k c.args.count)) c.loop-replica.invariant written)

@@ -11,7 +11,8 @@ loop-value-preserved c =
     let earlier = c.loop-value.deeds.items in
     rw c.in_ok-push.ensures.items (record {
       so_far = c.loop-value.invariant.so_far
-          ∙ read_each-more (deed_in faulty c.args.views) view earlier c.in_ok-values.values.now c.loop-value.value-index c.value-item.result c.in_ok-deed.deed c.loop-value-test.true
+          ∙ read_each-more (deed_in faulty c.args.views) view earlier c.in_ok-values.values.now c.loop-value.value-index c.value-item.result
+          c.in_ok-deed.deed c.loop-value-test.true
           (rw (← c.value-item.is, ← c.deref.ensures.value) c.in_ok-deed.ensures.exact);
       marks = rw c.deref.ensures.value at c.in_ok-deed.ensures.marks;
       each = All-push (IsDeed faulty c.args.views) earlier c.in_ok-deed.deed c.loop-value.invariant.each c.in_ok-deed.ensures.rules;

@@ -22,9 +22,11 @@ pub loop-value-preserved : goal.loop-value-preserved
 loop-value-preserved c =
     let n = c.args.setting.now.n in
     let i = c.loop-value.value-index in
-    let more : members_in n c.loop-value.faulty (map view (drop i c.args.values.now)) ≡ members_in n (with_replica c.in_ok-replica.replica c.loop-value.faulty) (map view (drop (i + 1) c.args.values.now)) =
+    let more : members_in n c.loop-value.faulty (map view (drop i c.args.values.now))
+    ≡ members_in n (with_replica c.in_ok-replica.replica c.loop-value.faulty) (map view (drop (i + 1) c.args.values.now)) =
     rw (drop_more c.args.values.now i c.value-item.result c.loop-value-test.true, ← c.value-item.is, c.in_ok-replica.ensures.exact) in
     record {
       so_far = c.loop-value.invariant.so_far ∙ rw c.add-is_new.ensures.members more;
-      below = rw c.add-is_new.ensures.members (All-with_replica (λ r. r < n) c.in_ok-replica.replica c.loop-value.faulty c.in_ok-replica.ensures.below.0 c.loop-value.invariant.below);
+      below = rw c.add-is_new.ensures.members
+          (All-with_replica (λ r. r < n) c.in_ok-replica.replica c.loop-value.faulty c.in_ok-replica.ensures.below.0 c.loop-value.invariant.below);
     }

@@ -10,7 +10,8 @@ loop-number-preserved c =
     let before = c.loop-number.lists.items in
     let txs = c.in_ok-read_order.field-0 in
     let step =
-    lists_on (c.args.quorum + 2 - number) (c.args.quorum + 2 - (number + 1)) number before c.loop-number.rest.now c.in_ok-line.line.now c.in_ok-line.following.now txs (omega arith) c.in_ok-line.ensures c.in_ok-read_order.ensures.exact in
+    lists_on (c.args.quorum + 2 - number) (c.args.quorum + 2 - (number + 1)) number before c.loop-number.rest.now c.in_ok-line.line.now
+    c.in_ok-line.following.now txs (omega arith) c.in_ok-line.ensures c.in_ok-read_order.ensures.exact in
     rw c.in_ok-push.ensures.items (record {
       so_far = c.loop-number.invariant.so_far ∙ step;
       short = All-push (λ list. length list ≤ 128) before txs c.loop-number.invariant.short c.in_ok-read_order.ensures.short;

@@ -9,18 +9,23 @@ use Rattle.plan_text.proofs.restarts.read_restart.Goals as goal
 pub returns-then-not-branch-clause-exact : goal.returns-then-not-branch-clause-exact
 unfolding restart_in
 returns-then-not-branch-clause-exact c =
-    let had : contains two_cmp c.args.moments.now (c.in_ok-replica.replica, c.in_ok-turn.turn) ≡ true = not_new c.in_ok-insert.field-0 _ c.in_ok-insert.ensures.added cc in
-    let met : has_restart c.args.earlier.now c.in_ok-replica.replica c.in_ok-turn.turn ≡ true = sym (restart_met c.args.moments.now c.args.earlier.now c.in_ok-replica.replica c.in_ok-turn.turn c.requires.marks) ∙ had in
+    let had : contains two_cmp c.args.moments.now (c.in_ok-replica.replica, c.in_ok-turn.turn) ≡ true =
+    not_new c.in_ok-insert.field-0 _ c.in_ok-insert.ensures.added cc in
+    let met : has_restart c.args.earlier.now c.in_ok-replica.replica c.in_ok-turn.turn ≡ true =
+    sym (restart_met c.args.moments.now c.args.earlier.now c.in_ok-replica.replica c.in_ok-turn.turn c.requires.marks) ∙ had in
     search rules
 
 pub returns-clause-exact : goal.returns-clause-exact
 unfolding restart_in
 returns-clause-exact c =
-    let had : contains two_cmp c.args.moments.now (c.in_ok-replica.replica, c.in_ok-turn.turn) ≡ false = is_new c.in_ok-insert.field-0 _ c.in_ok-insert.ensures.added cc in
-    let met : has_restart c.args.earlier.now c.in_ok-replica.replica c.in_ok-turn.turn ≡ false = sym (restart_met c.args.moments.now c.args.earlier.now c.in_ok-replica.replica c.in_ok-turn.turn c.requires.marks) ∙ had in
+    let had : contains two_cmp c.args.moments.now (c.in_ok-replica.replica, c.in_ok-turn.turn) ≡ false =
+    is_new c.in_ok-insert.field-0 _ c.in_ok-insert.ensures.added cc in
+    let met : has_restart c.args.earlier.now c.in_ok-replica.replica c.in_ok-turn.turn ≡ false =
+    sym (restart_met c.args.moments.now c.args.earlier.now c.in_ok-replica.replica c.in_ok-turn.turn c.requires.marks) ∙ had in
     search rules
 
 pub returns-clause-marks : goal.returns-clause-marks
 returns-clause-marks c =
-    once_insert two_cmp two_total moment_of c.args.moments.now c.insert.new.self c.args.earlier.now (record { replica = c.in_ok-replica.replica; turn = c.in_ok-turn.turn }) c.requires c.in_ok-insert.ensures.updates
+    once_insert two_cmp two_total moment_of c.args.moments.now c.insert.new.self c.args.earlier.now
+    (record { replica = c.in_ok-replica.replica; turn = c.in_ok-turn.turn }) c.requires c.in_ok-insert.ensures.updates
     (is_new c.in_ok-insert.field-0 _ c.in_ok-insert.ensures.added cc)

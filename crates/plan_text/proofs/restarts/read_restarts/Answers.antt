@@ -12,7 +12,8 @@ loop-value-preserved c =
     let earlier = c.loop-value.restarts.items in
     rw c.in_ok-push.ensures.items (record {
       so_far = c.loop-value.invariant.so_far
-          ∙ read_each-more (restart_in n faulty) view earlier c.in_ok-values.values.now c.loop-value.value-index c.value-item.result c.in_ok-restart.restart c.loop-value-test.true
+          ∙ read_each-more (restart_in n faulty) view earlier c.in_ok-values.values.now c.loop-value.value-index c.value-item.result
+          c.in_ok-restart.restart c.loop-value-test.true
           (rw (← c.value-item.is, ← c.deref.ensures.value) c.in_ok-restart.ensures.exact);
       marks = rw c.deref.ensures.value at c.in_ok-restart.ensures.marks;
       each = All-push (IsRestart n faulty) earlier c.in_ok-restart.restart c.loop-value.invariant.each c.in_ok-restart.ensures.rules;

@@ -7,7 +7,8 @@ use Rattle.plan_text.proofs.restarts.read_restarts.Given as goal
 
 abbrev pub invariant-loop-value : goal.invariant-loop-value
 invariant-loop-value l = record {
-  so_far : read_each (restart_in l.setting.n l.faulty) [] (map view l.values) ≡ read_each (restart_in l.setting.n l.faulty) l.restarts.items (map view (drop l.value-index l.values));
+  so_far : read_each (restart_in l.setting.n l.faulty) [] (map view l.values)
+      ≡ read_each (restart_in l.setting.n l.faulty) l.restarts.items (map view (drop l.value-index l.values));
   marks : MarksOnce two_cmp moment_of l.moments l.restarts.items;
   each : All (IsRestart l.setting.n l.faulty) l.restarts.items;
 }

@@ -12,7 +12,10 @@ pub returns-clause-cause : goal.returns-clause-cause
 returns-clause-cause c =
     let header = c.args.header.now in
     let log = c.args.log.now in
-    let found = subst (λ (records : List ℕ). IfErr c.whole_records.result (λ (f : OpenFault). IsRecordsCause f c.header_digest.result records)) c.records_in.ensures c.whole_records.ensures.cause in
-    let refused = subst (λ (digest : List ℕ). IfErr c.whole_records.result (λ (f : OpenFault). IsRecordsCause f digest (records_in log))) c.header_digest.ensures found in
-    IfErr-weaker c.whole_records.result (λ (f : OpenFault). IsRecordsCause f (header_digest header) (records_in log)) (λ (f : OpenFault). IsLogCause f header log)
+    let found = subst (λ (records : List ℕ). IfErr c.whole_records.result (λ (f : OpenFault). IsRecordsCause f c.header_digest.result records))
+    c.records_in.ensures c.whole_records.ensures.cause in
+    let refused = subst (λ (digest : List ℕ). IfErr c.whole_records.result (λ (f : OpenFault). IsRecordsCause f digest (records_in log)))
+    c.header_digest.ensures found in
+    IfErr-weaker c.whole_records.result (λ (f : OpenFault). IsRecordsCause f (header_digest header) (records_in log))
+    (λ (f : OpenFault). IsLogCause f header log)
     (λ f is. records_cause f header log c.in_ok-refuse_others.ensures.own is) refused

@@ -20,5 +20,6 @@ loop-public-preserved c =
     let next : concat (take (k + 1) publics) ≡ concat (take k publics) ++ get_or publics k [] =
     ap concat (take_more publics k [] c.loop-public-test.true) ∙ concat-append (take k publics) (get_or publics k [] ∷ [])
     ∙ ap (λ (t : List ℕ). concat (take k publics) ++ t) (append-nil (get_or publics k [])) in
-    subst (Holds256 c.update-in-loop-public.new.self) (append_assoc number (concat (take k publics)) (get_or publics k []) ∙ ap (λ (t : List ℕ). number ++ t) (sym next))
+    subst (Holds256 c.update-in-loop-public.new.self)
+    (append_assoc number (concat (take k publics)) (get_or publics k []) ∙ ap (λ (t : List ℕ). number ++ t) (sym next))
     (c.update-in-loop-public.ensures _ c.loop-public.invariant)

@@ -8,7 +8,8 @@ abbrev pub invariant-loop-seat : goal.invariant-loop-seat
 invariant-loop-seat g l =
     let m = meaning g.S.Sealer.replica g.S.Sealer.gives in
     record {
-      so_far : l.journals.items ++ map (λ seat. journal_of (replica_of m seat)) (into_iter_items l.seat-iterator) ≡ map (λ seat. journal_of (replica_of m seat)) l.fn.seats.items;
+      so_far : l.journals.items ++ map (λ seat. journal_of (replica_of m seat)) (into_iter_items l.seat-iterator)
+          ≡ map (λ seat. journal_of (replica_of m seat)) l.fn.seats.items;
       readable : All (λ journal. AreReadable journal.entries) l.journals.items;
       left : into_iter_len l.seat-iterator ≡ length (into_iter_items l.seat-iterator);
     }

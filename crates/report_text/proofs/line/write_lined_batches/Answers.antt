@@ -12,5 +12,6 @@ write_lined_batch-requires-clause-vertices c =
     let batches : List (List Tx) = c.args.batches.now in
     let inside : c.loop-at.at < length batches = rw c.as_slice-batches.ensures at c.loop-at-test.true in
     let item : c.index-batches-at.result ≡ get_or batches c.loop-at.at c.index-batches-at.result = rw c.as_slice-batches.ensures at c.index-batches-at.is in
-    let is : c.as_slice.result.now ≡ get_or batches c.loop-at.at [] = c.as_slice.ensures ∙ item ∙ get_or_default batches c.loop-at.at c.index-batches-at.result [] inside in
+    let is : c.as_slice.result.now ≡ get_or batches c.loop-at.at [] =
+    c.as_slice.ensures ∙ item ∙ get_or_default batches c.loop-at.at c.index-batches-at.result [] inside in
     subst (λ (txs : List Tx). All (λ t. holds t vertices ≡ true) txs) (sym is) (held_by_batch c.args.proposal.now batches c.loop-at.at c.requires.batches)

@@ -37,13 +37,17 @@ loop-replica-preserved g c =
     let some : 0 < length keepers = (let left = invariant.left in omega (arith, left, c.loop-replica-test.true)) in
     record {
       done = ap length put ∙ length_push begun keeping ∙ ap (λ (n : ℕ). n + 1) invariant.done;
-      left = (let fewer = length-remove keepers 0 some in let len = ap length c.remove.ensures.items in let left = invariant.left in omega (arith, fewer, len, left));
+      left =
+          (let fewer = length-remove keepers 0 some in let len = ap length c.remove.ensures.items in let left = invariant.left in
+          omega (arith, fewer, len, left));
       new = all_left (IsNew m k.begun) keepers c.remove.new.self.items c.remove.ensures.items invariant.new;
       opened = subst (λ (xs : List (Keeping _)). All (IsOpen k.begun) xs) (sym put)
-          (All-append (IsOpen k.begun) begun (keeping ∷ []) invariant.opened (All-cons (IsOpen k.begun) keeping [] c.in_ok-keeping.ensures.open (All-nil (IsOpen k.begun))));
+          (All-append (IsOpen k.begun) begun (keeping ∷ []) invariant.opened
+          (All-cons (IsOpen k.begun) keeping [] c.in_ok-keeping.ensures.open (All-nil (IsOpen k.begun))));
       faults = λ least all. later_faults m least at keepers c.remove.new.self.items c.remove.ensures.items (invariant.faults least all);
       each = λ least all.
-          let here : least at ≤ k.faults (get_or keepers 0 c.remove.result) = first_faults m least at keepers c.remove.result some (invariant.faults least all) in
+          let here : least at ≤ k.faults (get_or keepers 0 c.remove.result) =
+          first_faults m least at keepers c.remove.result some (invariant.faults least all) in
           let fewer : least at ≤ k.faults c.remove.result = subst (λ (x : g.row.K.Denot). least at ≤ k.faults x) (sym c.remove.ensures.value) here in
           begun_more m plan least begun c.put.new.begun.items keeping at put invariant.done
           (less_begun m plan (least at) (k.faults c.remove.result) at keeping fewer c.in_ok-keeping.ensures.begun) (invariant.each least all);

@@ -56,4 +56,5 @@ returns-in-Err-clause-fault g c least all =
     let ground = ground (meant g.K.Keeper) means (g.C.Checker.meaning c.args.checker.now) plan (g.M.SealMaker.gives c.args.maker.now) in
     c.handed_back.ensures least
     (c.in-Err.ensures.kept.go least
-    (start_kept ground least c.in_ok-keepers.keepers c.in_ok-network.network (c.in_ok-keepers.ensures.begun least all) (c.in_ok-network.ensures ∙ ap (start_of plan) c.requires.kit)))
+    (start_kept ground least c.in_ok-keepers.keepers c.in_ok-network.network (c.in_ok-keepers.ensures.begun least all)
+    (c.in_ok-network.ensures ∙ ap (start_of plan) c.requires.kit)))

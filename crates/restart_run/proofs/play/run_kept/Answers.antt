@@ -28,7 +28,8 @@ returns-then-not-branch-clause-world g c =
     let n = steps_of plan in
     let step_number = c.loop-step.step in
     let w = world_of means c.loop-step.network in
-    let stepped : step fits plan w ≡ record { goes_on = c.in_ok-step_kept.field-0; world = world_of means c.step_kept.new.network } = c.in_ok-step_kept.ensures.world in
+    let stepped : step fits plan w ≡ record { goes_on = c.in_ok-step_kept.field-0; world = world_of means c.step_kept.new.network } =
+    c.in_ok-step_kept.ensures.world in
     let below : step_number < n = (let most = c.most_steps-step-end.ensures in omega (arith, most, c.loop-step-test.true)) in
     let over : (step fits plan w).goes_on ≡ false = ap (λ (s : Stepped). s.goes_on) stepped ∙ c.if-not-branch.true in
     sym (ap (λ (s : Stepped). s.world) stepped) ∙ sym (run_over fits plan w step_number n below over) ∙ c.loop-step.invariant.world
@@ -41,7 +42,8 @@ returns-then-not-branch-clause-kept g c =
     let fits = g.C.Checker.meaning c.args.checker.now in
     let ground = ground (meant k) means fits plan (g.M.SealMaker.gives c.args.maker.now) in
     let w = world_of means c.loop-step.network in
-    let stepped : step fits plan w ≡ record { goes_on = c.in_ok-step_kept.field-0; world = world_of means c.step_kept.new.network } = c.in_ok-step_kept.ensures.world in
+    let stepped : step fits plan w ≡ record { goes_on = c.in_ok-step_kept.field-0; world = world_of means c.step_kept.new.network } =
+    c.in_ok-step_kept.ensures.world in
     let over : (step fits plan w).goes_on ≡ false = ap (λ (s : Stepped). s.goes_on) stepped ∙ c.if-not-branch.true in
     let turns : c.step_kept.new.network.turns ≡ c.loop-step.network.turns =
     sym (ap (λ (s : Stepped). s.world.turns) stepped) ∙ (c.steps_get_on.ensures fits plan w).last over in
@@ -62,7 +64,8 @@ loop-step-preserved g c =
     let n = steps_of plan in
     let step_number = c.loop-step.step in
     let w = world_of means c.loop-step.network in
-    let stepped : step fits plan w ≡ record { goes_on = c.in_ok-step_kept.field-0; world = world_of means c.step_kept.new.network } = c.in_ok-step_kept.ensures.world in
+    let stepped : step fits plan w ≡ record { goes_on = c.in_ok-step_kept.field-0; world = world_of means c.step_kept.new.network } =
+    c.in_ok-step_kept.ensures.world in
     let next : (step fits plan w).world ≡ world_of means c.step_kept.new.network = ap (λ (s : Stepped). s.world) stepped in
     let below : step_number < n = (let most = c.most_steps-step-end.ensures in omega (arith, most, c.loop-step-test.true)) in
     let gets_on = c.steps_get_on.ensures fits plan w in

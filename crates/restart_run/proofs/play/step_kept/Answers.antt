@@ -20,6 +20,7 @@ returns-clause-kept g c =
     let plan = c.args.plan.now in
     let ground = ground (meant k) means (g.C.Checker.meaning c.args.checker.now) plan (g.M.SealMaker.gives c.args.maker.now) in
     record {
-      go = λ least kept. step_starts ground (starts_before plan.restarts (c.args.network.now.turns + 1)) least c.restart_due.new.keepers c.restart_due.new.network
+      go = λ least kept. step_starts ground
+          (starts_before plan.restarts (c.args.network.now.turns + 1)) least c.restart_due.new.keepers c.restart_due.new.network
           c.step.result c.step.new.keepers c.step.new.self c.step.ensures.kept (c.in_ok-restart_due.ensures.kept.go least kept);
     }

@@ -47,5 +47,6 @@ returns-clause-here g c =
     let within : c.args.replica < length items = omega (arith, c.len.ensures, c.keepers.inside.keepers.ok.0) in
     on_ok c.reopened.result _ (record {
       it = old;
-      here = ap (λ (xs : List (Keeping _)). slice_get xs c.args.replica) (sym c.keepers.view_is) ∙ slice_get-get_or items c.args.replica old within ∙ ap Some (sym c.index_mut-keeping.ensures.value);
+      here = ap (λ (xs : List (Keeping _)). slice_get xs c.args.replica) (sym c.keepers.view_is)
+          ∙ slice_get-get_or items c.args.replica old within ∙ ap Some (sym c.index_mut-keeping.ensures.value);
     })

@@ -61,7 +61,8 @@ seats_stay g c =
     let k_here = c.in_ok-node.ensures.here in
     let r = found_too c.args.keepers.now (map (replica_of means) before.seats) c.args.replica k_here.it under.kept.count k_here.here in
     let was = ((under.kept.each c.args.replica k_here.it r.0 k_here.here r.1).honest c.requires.honest).1 in
-    let re = c.in_ok-node.ensures.again (lifetimes_of ground under.starts none_failed) r.0 k_here.it k_here.here was (same_seals g c) c.in_ok-sealer.ensures.room in
+    let re = c.in_ok-node.ensures.again (lifetimes_of ground under.starts none_failed) r.0 k_here.it k_here.here was
+    (same_seals g c) c.in_ok-sealer.ensures.room in
     ap (λ (n : Net _). map (replica_of means) n.seats) c.reseat.ensures
     ∙ reseated_stays means before.seats c.args.replica c.in_ok-node.node r.0 r.1 (c.in_ok-node.ensures.replica ∙ sym was.number)
     (c.in_ok-node.ensures.gives ∙ same_seals g c ∙ sym was.gives) re.again.state
@@ -88,7 +89,8 @@ returns-clause-kept g c starts =
     record {
       go = λ least kept.
           restart_kept ground starts least old c.reopen_at.new.keepers before c.reseat.new.self at k_here.it r.0 c.in_ok-node.node.state k_here.here r.1
-          (c.in_ok-node.ensures.again (lifetimes_of ground starts least) r.0 k_here.it k_here.here ((kept.each at k_here.it r.0 k_here.here r.1).honest c.requires.honest).1 (same_seals g d)
+          (c.in_ok-node.ensures.again (lifetimes_of ground starts least) r.0 k_here.it k_here.here
+          ((kept.each at k_here.it r.0 k_here.here r.1).honest c.requires.honest).1 (same_seals g d)
           c.in_ok-sealer.ensures.room)
           (seats_stay g d) kept;
     }

@@ -117,7 +117,8 @@ returns-clause-kept g c =
     let near : from ≤ turns + 1 = omega (arith, same, c.requires.near) in
     record {
       go = λ least kept.
-          as_often ground (starts_amid plan.restarts from turns i) (starts_before plan.restarts (c.args.network.now.turns + 1)) least c.loop-restart.keepers c.loop-restart.network
+          as_often ground (starts_amid plan.restarts from turns i)
+          (starts_before plan.restarts (c.args.network.now.turns + 1)) least c.loop-restart.keepers c.loop-restart.network
           (λ at. amid_all plan.restarts from turns i near all at ∙ ap (λ (t : ℕ). starts_before plan.restarts (t + 1) at) same)
           (c.loop-restart.invariant.kept least kept);
     }

@@ -27,8 +27,11 @@ loop-tx-preserved c =
     let xs = c.args.first.now in
     let i = c.loop-tx.tx-index in
     let tx : Tx = get_or xs i none in
-    let known : list_any (tx_eq tx) c.insert_all.new.set.keys ≡ p tx = c.in_ok-insert_all.ensures tx ∙ ap (λ (keys : List Tx). list_any (tx_eq tx) keys || holds tx second) c.new-set.ensures.empty in
+    let known : list_any (tx_eq tx) c.insert_all.new.set.keys ≡ p tx =
+    c.in_ok-insert_all.ensures tx ∙ ap (λ (keys : List Tx). list_any (tx_eq tx) keys || holds tx second) c.new-set.ensures.empty in
     elim c.if-contains.branch [
-      | then-contains+in_ok-push w ↦ kept p xs i c.loop-tx.found.items c.if-contains.found.items true c.loop-tx.invariant c.loop-tx-test.true (sym known ∙ sym w.if-contains.ensures) (ap items w.found-is ∙ w.in_ok-push.ensures.items)
-      | else-contains w ↦ kept p xs i c.loop-tx.found.items c.if-contains.found.items false c.loop-tx.invariant c.loop-tx-test.true (sym known ∙ sym w.if-contains.ensures) (ap items w.found-is ∙ sym (append-nil c.loop-tx.found.items))
+      | then-contains+in_ok-push w ↦ kept p xs i c.loop-tx.found.items c.if-contains.found.items true c.loop-tx.invariant c.loop-tx-test.true
+          (sym known ∙ sym w.if-contains.ensures) (ap items w.found-is ∙ w.in_ok-push.ensures.items)
+      | else-contains w ↦ kept p xs i c.loop-tx.found.items c.if-contains.found.items false c.loop-tx.invariant c.loop-tx-test.true
+          (sym known ∙ sym w.if-contains.ensures) (ap items w.found-is ∙ sym (append-nil c.loop-tx.found.items))
     ]

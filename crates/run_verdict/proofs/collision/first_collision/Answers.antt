@@ -22,8 +22,10 @@ returns-then-is_some c =
     let run = c.args.run.now in
     let k = c.loop-receiver.receiver in
     let next = ap blocks (rw (c.in-Some.is, c.as_slice-journals.ensures) at c.of_honest.ensures.walk) in
-    stands_stop [] (all_received run) (blocks (honest_items (honest_in run) k (drop k run.journals))) (blocks (honest_items (honest_in run) (k + 1) (drop (k + 1) run.journals)))
-    (received_in (k, c.in-Some.journal.now)) c.loop-receiver.seen.spellings c.loop-receiver.seen.first_places c.loop-receiver.invariant c.in_ok-collided.collided next
+    stands_stop [] (all_received run) (blocks (honest_items (honest_in run) k (drop k run.journals)))
+    (blocks (honest_items (honest_in run) (k + 1) (drop (k + 1) run.journals)))
+    (received_in (k, c.in-Some.journal.now)) c.loop-receiver.seen.spellings c.loop-receiver.seen.first_places c.loop-receiver.invariant
+    c.in_ok-collided.collided next
     (λ xs known. c.in_ok-collided.ensures.collided xs known) (sym c.if-is_some.ensures)
 
 pub loop-receiver-preserved : goal.loop-receiver-preserved
@@ -34,14 +36,17 @@ loop-receiver-preserved c =
       | in-Some+in_ok-collided+else-is_some w ↦
           let next = ap blocks (rw (w.in-Some.is, c.as_slice-journals.ensures) at c.of_honest.ensures.walk) in
           rw w.seen-is
-          (stands_go [] (all_received run) (blocks (honest_items (honest_in run) k (drop k run.journals))) (blocks (honest_items (honest_in run) (k + 1) (drop (k + 1) run.journals)))
-          (received_in (k, w.in-Some.journal.now)) c.loop-receiver.seen.spellings c.loop-receiver.seen.first_places c.loop-receiver.invariant w.in_ok-collided.collided next
+          (stands_go [] (all_received run) (blocks (honest_items (honest_in run) k (drop k run.journals)))
+          (blocks (honest_items (honest_in run) (k + 1) (drop (k + 1) run.journals)))
+          (received_in (k, w.in-Some.journal.now)) c.loop-receiver.seen.spellings c.loop-receiver.seen.first_places
+          c.loop-receiver.invariant w.in_ok-collided.collided next
           (λ xs known. w.in_ok-collided.ensures.collided xs known) w.see_all.new.self.spellings w.see_all.new.self.first_places (sym w.if-is_some.ensures)
           (λ xs known. w.in_ok-collided.ensures.knows xs known))
       | in_default w ↦
           let next = ap blocks (rw (w.in_default.is, c.as_slice-journals.ensures) at c.of_honest.ensures.walk) in
           rw w.seen-is
-          (stands_skip [] (all_received run) (blocks (honest_items (honest_in run) k (drop k run.journals))) (blocks (honest_items (honest_in run) (k + 1) (drop (k + 1) run.journals)))
+          (stands_skip [] (all_received run) (blocks (honest_items (honest_in run) k (drop k run.journals)))
+          (blocks (honest_items (honest_in run) (k + 1) (drop (k + 1) run.journals)))
           [] c.loop-receiver.seen.spellings c.loop-receiver.seen.first_places c.loop-receiver.invariant next)
     ]
 
@@ -51,4 +56,5 @@ returns c =
     let run = c.args.run.now in
     let k = c.loop-receiver.receiver in
     let none = ap blocks (honest_after run.setting.n run.faulty k (drop k run.journals) (omega (arith, c.n-receiver-end.ensures.value))) in
-    stands_past [] (all_received run) (blocks (honest_items (honest_in run) k (drop k run.journals))) [] [] c.loop-receiver.seen.spellings c.loop-receiver.seen.first_places c.loop-receiver.invariant none
+    stands_past [] (all_received run) (blocks (honest_items (honest_in run) k (drop k run.journals))) [] [] c.loop-receiver.seen.spellings
+    c.loop-receiver.seen.first_places c.loop-receiver.invariant none

@@ -8,4 +8,5 @@ use Rattle.run_verdict.proofs.collision.first_collision.Given as goal
 
 abbrev pub invariant-loop-receiver : goal.invariant-loop-receiver
 invariant-loop-receiver l =
-    Stands [] (all_received l.run) (flat_map received_in (honest_items (honest_in l.run) l.receiver (drop l.receiver l.run.journals))) l.seen.spellings l.seen.first_places
+    Stands [] (all_received l.run) (flat_map received_in (honest_items (honest_in l.run) l.receiver (drop l.receiver l.run.journals)))
+    l.seen.spellings l.seen.first_places

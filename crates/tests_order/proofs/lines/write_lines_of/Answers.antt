@@ -12,5 +12,7 @@ line_of_batch-requires-clause-vertices c =
     let batches : List (List Tx) = c.args.batches.now in
     let inside : c.loop-batch.batch-index < length batches = rw c.as_slice-batches.ensures at c.loop-batch-test.true in
     let item : c.batch-item.result ≡ get_or batches c.loop-batch.batch-index c.batch-item.result = rw c.as_slice-batches.ensures at c.batch-item.is in
-    let is : c.as_slice.result.now ≡ get_or batches c.loop-batch.batch-index [] = c.as_slice.ensures ∙ item ∙ get_or_default batches c.loop-batch.batch-index c.batch-item.result [] inside in
-    subst (λ (txs : List Tx). All (λ t. holds t vertices ≡ true) txs) (sym is) (held_by_batch c.args.graph.now batches c.loop-batch.batch-index c.requires.batches)
+    let is : c.as_slice.result.now ≡ get_or batches c.loop-batch.batch-index [] =
+    c.as_slice.ensures ∙ item ∙ get_or_default batches c.loop-batch.batch-index c.batch-item.result [] inside in
+    subst (λ (txs : List Tx). All (λ t. holds t vertices ≡ true) txs) (sym is)
+    (held_by_batch c.args.graph.now batches c.loop-batch.batch-index c.requires.batches)

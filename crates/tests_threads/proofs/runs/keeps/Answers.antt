@@ -2,4 +2,5 @@ use Rattle.std.proofs.Common.{arith}
 use Rattle.tests_threads.proofs.runs.keeps.Goals as goal
 
 pub threads-requires-clause-room : goal.threads-requires-clause-room
-threads-requires-clause-room g c κs within = λ k d lt. (let is = c.in_ok-kit.ensures.room k d lt in let all = c.in_ok-plan.ensures.rules.seals_suffice in omega (arith, is, all))
+threads-requires-clause-room g c κs within =
+    λ k d lt. (let is = c.in_ok-kit.ensures.room k d lt in let all = c.in_ok-plan.ensures.rules.seals_suffice in omega (arith, is, all))

@@ -14,5 +14,6 @@ loop-at-preserved c =
     let written : List CTx = take start into ++ map c_tx (take c.loop-at.at txs) ++ drop (start + c.loop-at.at) into in
     let there : c.loop-at.at < length txs = omega arith in
     let room : start + length txs ≤ length into = c.requires in
-    ap (λ (l : List CTx). set l (start + c.loop-at.at) c.c_tx.result) c.loop-at.invariant ∙ ap (λ (x : CTx). set written (start + c.loop-at.at) x) c.c_tx.ensures
+    ap (λ (l : List CTx). set l (start + c.loop-at.at) c.c_tx.result) c.loop-at.invariant
+    ∙ ap (λ (x : CTx). set written (start + c.loop-at.at) x) c.c_tx.ensures
     ∙ written_from c_tx txs into start c.loop-at.at (record { client = 0; number = 0; payload = 0 }) there room

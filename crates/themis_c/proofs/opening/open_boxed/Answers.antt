@@ -15,7 +15,8 @@ returns-in-Ok-clause-opened c = opened_boxed _ _ _ _ _ _ _ _ _ _ _ _ c.id_of.ens
 
 pub returns-in-Ok-clause-digest : goal.returns-in-Ok-clause-digest
 returns-in-Ok-clause-digest c =
-    boxed_as (λ s i e. IsDigestOf s.header c.args.log.now s.digest) _ _ _ _ _ _ c.id_of.ensures c.seed_of.ensures c.in-Ok.ensures.ok c.in_ok-replica.ensures.digest
+    boxed_as (λ s i e. IsDigestOf s.header c.args.log.now s.digest) _ _ _ _ _ _ c.id_of.ensures c.seed_of.ensures c.in-Ok.ensures.ok
+    c.in_ok-replica.ensures.digest
 
 pub returns-in-Ok-clause-gives : goal.returns-in-Ok-clause-gives
 returns-in-Ok-clause-gives c =

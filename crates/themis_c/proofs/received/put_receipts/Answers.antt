@@ -13,5 +13,6 @@ loop-at-preserved c =
     let written : List CReceipt = map c_receipt (take c.loop-at.at receipts) ++ drop c.loop-at.at into in
     let there : c.loop-at.at < length receipts = omega arith in
     let room : length receipts ≤ length into = c.requires in
-    ap (λ (l : List CReceipt). set l c.loop-at.at c.c_receipt.result) c.loop-at.invariant ∙ ap (λ (x : CReceipt). set written c.loop-at.at x) c.c_receipt.ensures
+    ap (λ (l : List CReceipt). set l c.loop-at.at c.c_receipt.result) c.loop-at.invariant
+    ∙ ap (λ (x : CReceipt). set written c.loop-at.at x) c.c_receipt.ensures
     ∙ written_more c_receipt receipts into c.loop-at.at (record { tx = record { client = 0; number = 0; payload = 0 }; stamp = 0 }) there room

@@ -13,4 +13,16 @@ loop-piece-preserved g c =
     let items = rw (c.unwrap.ensures, c.reserve.ensures.items) at c.extend_from_slice.ensures.items in
     let long = rw (c.unwrap.ensures, c.reserve.ensures.len, moved) at c.extend_from_slice.ensures.len in
     let read = read_on (vec_len c.loop-piece.input) count c.loop-piece.input.items _ c.read.new.into _ _ _ c.loop-piece.invariant.read reads in
-    record { limit = omega (arith, long, reads.within, length-take c.min-want.result c.loop-piece.piece, c.min-want.ensures, c.len-in-loop-piece.ensures, c.loop-piece.invariant.limit); read = rw (long, items) read; quiet = c.in-Ok-read.ensures.quiet ∙ c.loop-piece.invariant.quiet }
+    record {
+      limit = omega (
+        arith,
+        long,
+        reads.within,
+        length-take c.min-want.result c.loop-piece.piece,
+        c.min-want.ensures,
+        c.len-in-loop-piece.ensures,
+        c.loop-piece.invariant.limit,
+      );
+      read = rw (long, items) read;
+      quiet = c.in-Ok-read.ensures.quiet ∙ c.loop-piece.invariant.quiet;
+    }

@@ -14,5 +14,6 @@ returns c = λ bytes orders is complete i inside.
     let graph = c.computed_lists_are_kept.ensures.graph s lists (orders_are_fresh s lists are) in
     let batches : List (List Tx) = batches_of (proposal_of s lists) in (
       c.neighbours_have_majorities.ensures.each s lists (get_or batches i []),
-      c.lines_of_batches_have_majorities.ensures s lists (kept_by s lists) batches i complete (c.computed_lists_are_batches.ensures (proposal_of s lists) graph complete) inside,
+      c.lines_of_batches_have_majorities.ensures s lists (kept_by s lists) batches i complete
+          (c.computed_lists_are_batches.ensures (proposal_of s lists) graph complete) inside,
     )

@@ -9,4 +9,8 @@ loop-written-preserved g c =
     let n : ℕ = c.loop-written.written in
     let same : n + size - n ≡ size = omega arith in
     let writes = rw same at c.in_ok-written.ensures.ok in
-    record { within = omega (arith, writes.within, length-take-le size (drop n c.args.text.now) (omega (arith, length-drop n c.args.text.now))); taken = wrote_on c.args.text.now n size c.in_ok-written.field-0 _ _ _ (omega arith) c.loop-written.invariant.taken writes; quiet = c.in_ok-written.ensures.quiet ∙ c.loop-written.invariant.quiet }
+    record {
+      within = omega (arith, writes.within, length-take-le size (drop n c.args.text.now) (omega (arith, length-drop n c.args.text.now)));
+      taken = wrote_on c.args.text.now n size c.in_ok-written.field-0 _ _ _ (omega arith) c.loop-written.invariant.taken writes;
+      quiet = c.in_ok-written.ensures.quiet ∙ c.loop-written.invariant.quiet;
+    }

@@ -40,6 +40,7 @@ returns-clause-answers g c = elim c.match-read_whole.branch [
       let made = w.order-status.ensures in
       let long = rw w.deref.ensures.value at w.deref.ensures.len in
       rw (w.sink-is, w.status-is)
-      (read_answers _ _ _ _ c.read_whole.new.input.items _ _ _ w.in-Ok.ensures.bytes (omega (arith, long, w.in-Ok.ensures.below)) (never_unread _ made.read) made.write_fault
+      (read_answers _ _ _ _ c.read_whole.new.input.items _ _ _ w.in-Ok.ensures.bytes (omega (arith, long, w.in-Ok.ensures.below))
+      (never_unread _ made.read) made.write_fault
       (rw w.deref.ensures.value at made.answers))
 ]

@@ -40,12 +40,14 @@ returns-clause-answers g c = elim c.match-read_whole.branch [
       let made = w.audit.ensures in
       let long = rw w.deref.ensures.value at w.deref.ensures.len in
       rw (w.sink-is, w.status-is)
-      (read_audits _ _ _ _ c.read_whole.new.input.items _ _ _ _ w.in-Ok.ensures.bytes (omega (arith, long, w.in-Ok.ensures.below)) (never_unread _ made.read) made.write_fault
+      (read_audits _ _ _ _ c.read_whole.new.input.items _ _ _ _ w.in-Ok.ensures.bytes (omega (arith, long, w.in-Ok.ensures.below))
+      (never_unread _ made.read) made.write_fault
       (rw w.deref.ensures.value at made.text))
 ]
 
 pub returns-clause-headline : goal.returns-clause-headline
 returns-clause-headline g c = elim c.match-read_whole.branch [
   | in-Err w ↦ rw w.status-is tt
-  | in-Ok w ↦ rw (w.sink-is, w.status-is) (audit_of_source _ _ c.read_whole.new.input.items _ _ _ _ w.in-Ok.ensures.bytes (rw w.deref.ensures.value at w.audit.ensures.headline))
+  | in-Ok w ↦ rw (w.sink-is, w.status-is)
+      (audit_of_source _ _ c.read_whole.new.input.items _ _ _ _ w.in-Ok.ensures.bytes (rw w.deref.ensures.value at w.audit.ensures.headline))
 ]

@@ -31,14 +31,16 @@ returns-clause-answers g c =
     let named : Names c.args.words.now Run = search rules in
     by_name c.args.words.now Run
     (λ (command : Command). AnswersOf command seals (Rose (g.S.Source.faults c.args.source.now) (g.S.Source.faults c.over_plan_in_rounds.new.source))
-    (Rose (g.K.Sink.faults c.args.sink.now) (g.K.Sink.faults c.over_plan_in_rounds.new.sink)) (g.S.Source.left c.args.source.now) c.over_plan_in_rounds.result.run
+    (Rose (g.K.Sink.faults c.args.sink.now) (g.K.Sink.faults c.over_plan_in_rounds.new.sink))
+    (g.S.Source.left c.args.source.now) c.over_plan_in_rounds.result.run
     (g.K.Sink.written c.args.sink.now) (g.K.Sink.written c.over_plan_in_rounds.new.sink) c.over_plan_in_rounds.result.status)
     named c.over_plan_in_rounds.ensures.answers
 
 pub returns-then-is_err-clause-words : goal.returns-then-is_err-clause-words
 returns-then-is_err-clause-words g c =
     let named : Names c.args.words.now Run = search rules in
-    never_bad c.args.words.now Run c.unread.result.status named (λ bad. let wrong : NoMemory ≡ BadWords = sym (ap (λ (o : Outcome). o.status) c.unread.ensures) ∙ bad in cc wrong)
+    never_bad c.args.words.now Run c.unread.result.status named
+    (λ bad. let wrong : NoMemory ≡ BadWords = sym (ap (λ (o : Outcome). o.status) c.unread.ensures) ∙ bad in cc wrong)
 
 pub returns-clause-words : goal.returns-clause-words
 returns-clause-words g c =

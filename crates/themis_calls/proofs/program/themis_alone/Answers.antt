@@ -10,7 +10,8 @@ use Rattle.themis_calls.proofs.program.themis_alone.Goals as goal
 pub returns-clause-command : goal.returns-clause-command
 returns-clause-command g c =
     by_name c.args.words.now c.in-Ok.command
-    (λ (command : Command). EndsBy (rules_of command) c.args.source.now c.obey.new.source (g.S.Source.left c.obey.new.source) c.obey.result.run c.obey.result.used c.obey.result.status)
+    (λ (command : Command). EndsBy (rules_of command) c.args.source.now c.obey.new.source
+    (g.S.Source.left c.obey.new.source) c.obey.result.run c.obey.result.used c.obey.result.status)
     c.in-Ok.ensures.named c.obey.ensures.command
 
 pub returns-clause-answers : goal.returns-clause-answers

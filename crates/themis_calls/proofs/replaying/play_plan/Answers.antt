@@ -13,7 +13,8 @@ pub returns-clause-played : goal.returns-clause-played
 returns-clause-played g c =
     let seals = seals_of g.M.SealMaker g.M.CheckerMaker.keys_fit c.args.maker.now in
     let made = c.in_ok-kit.ensures in
-    run_is g.M.S.Sealer.replica g.M.S.Sealer.capacity g.M.S.Sealer.made g.M.S.Sealer.gives (g.M.C.Checker.meaning c.in_ok-kit.kit.checker) seals c.args.plan.now c.n.result
+    run_is g.M.S.Sealer.replica g.M.S.Sealer.capacity g.M.S.Sealer.made g.M.S.Sealer.gives
+    (g.M.C.Checker.meaning c.in_ok-kit.kit.checker) seals c.args.plan.now c.n.result
     c.in_ok-run.run' c.in_ok-kit.kit.sealers.items c.n.ensures.value c.in_ok-run.ensures.play made.checker made.replicas made.fresh made.room made.gives
 
 pub returns-clause-examined : goal.returns-clause-examined
@@ -39,5 +40,6 @@ turn_by_turn-requires-clause-kit g c κs lifetimes =
     let plan = c.args.plan.now in
     let made = c.in_ok-kit.ensures in
     let gives = g.M.SealMaker.gives c.args.maker.now plan.seed plan.height in
-    made_kit s.replica s.capacity s.made s.gives (gives c.n.result) (capacity_of plan.height) c.n.result c.in_ok-kit.kit.sealers.items made.replicas made.fresh made.room made.gives
+    made_kit s.replica s.capacity s.made s.gives (gives c.n.result)
+    (capacity_of plan.height) c.n.result c.in_ok-kit.kit.sealers.items made.replicas made.fresh made.room made.gives
     ∙ ap (λ (n : ℕ). kit_of (gives n) (capacity_of plan.height) n) c.n.ensures.value

@@ -12,7 +12,8 @@ returns-clause-text g c =
     let seals = seals_of g.M.SealMaker g.M.CheckerMaker.keys_fit c.args.maker.now in
     let played = c.in-Ok-run_plan.played in
     let reported = c.in-Ok-run_plan.ensures in
-    reported_answers InRounds seals c.args.input.now c.in-Ok.plan played.run played.verdict played.text (g.K.Sink.written c.args.sink.now) (g.K.Sink.written c.report.new.sink) c.report.result
+    reported_answers InRounds seals c.args.input.now c.in-Ok.plan played.run played.verdict played.text (g.K.Sink.written c.args.sink.now)
+    (g.K.Sink.written c.report.new.sink) c.report.result
     (search rules) reported.ran reported.examined reported.printed c.report.ensures.reported
 
 pub returns-clause-headline : goal.returns-clause-headline
@@ -33,8 +34,10 @@ returns-clause-headline g c =
       passes = c.lawful_runs_pass.ensures.trace_passes;
       verdict = c.bare_records_have_one_verdict.ensures;
     } in
-    order_kept InRounds seals c.args.input.now plan played.run played.verdict played.text (g.K.Sink.written c.args.sink.now) (g.K.Sink.written c.report.new.sink) c.report.result
-    law.sound law.audited c.lawful_runs_pass.ensures.trace_passes (search rules) (search rules) reported.ran reported.examined reported.printed c.report.ensures.reported
+    order_kept InRounds seals c.args.input.now plan played.run played.verdict played.text (g.K.Sink.written c.args.sink.now)
+    (g.K.Sink.written c.report.new.sink) c.report.result
+    law.sound law.audited c.lawful_runs_pass.ensures.trace_passes (search rules)
+    (search rules) reported.ran reported.examined reported.printed c.report.ensures.reported
     lawful
     (traced trace InRounds seals plan played.run reported.ran lawful form)
     (spent_in_rounds seals plan played.run reported.ran)

@@ -82,10 +82,13 @@ loop-k-preserved g c =
       hears = workers_hear c.args.workers.now workers c.report_log.new.workers i.hears e.hears;
       clients = clients_hear c.args.clients.now c.loop-k.clients c.report_log.new.clients i.clients e.clients;
       drivers = drivers_on first drivers k r reported i.drivers here;
-      own = zip_set IsDriverOf logs drivers k log reported i.own (own_heard (get_or logs k log) (get_or drivers k r) reported here (zip_at IsDriverOf logs drivers k log r i.own lt));
+      own = zip_set IsDriverOf logs drivers k log reported i.own
+          (own_heard (get_or logs k log) (get_or drivers k r) reported here (zip_at IsDriverOf logs drivers k log r i.own lt));
       seats = seated_on workers c.report_log.new.workers e.hears i.seats;
-      reported = reported_more first drivers c.loop-k.clients c.report_log.new.clients workers c.report_log.new.workers k i.drivers e.clients e.hears lt within i.reported
-          (λ d. (let same : get_or drivers k d ≡ r = get_or_from_slice_get drivers k (get_or drivers k r) d (slice_get-get_or drivers k r lt) ∙ sym c.index_mut.ensures.value in
+      reported = reported_more first drivers c.loop-k.clients c.report_log.new.clients workers c.report_log.new.workers k i.drivers
+          e.clients e.hears lt within i.reported
+          (λ d. (let same : get_or drivers k d ≡ r =
+          get_or_from_slice_get drivers k (get_or drivers k r) d (slice_get-get_or drivers k r lt) ∙ sym c.index_mut.ensures.value in
           subst (λ (x : Driver). ReportedAt k x.pass.seen c.report_log.new.workers c.report_log.new.clients) (sym same) e.reported));
       heard = heard_more c.args.workers.now workers drivers k reported i.hears lt i.heard e.back;
       len = sym lens ∙ i.len;

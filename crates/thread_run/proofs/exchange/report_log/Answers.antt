@@ -19,7 +19,8 @@ report_one-requires-clause-driver g c κs within =
     (λ d. ap (λ (p : Known Tx). p.log) c.hear_all.ensures.heard.same ∙ c.requires.driver d)
 
 pub returns-clause-ready : goal.returns-clause-ready
-returns-clause-ready g c = All-set (Ready c.args.world.now.logs.items c.args.world.now.boxes.items) c.args.workers.now c.args.k c.report_one.new.worker c.report_one.ensures.ready c.requires.ready
+returns-clause-ready g c = All-set (Ready c.args.world.now.logs.items c.args.world.now.boxes.items) c.args.workers.now c.args.k
+    c.report_one.new.worker c.report_one.ensures.ready c.requires.ready
 
 pub returns-clause-hears : goal.returns-clause-hears
 returns-clause-hears g c = one_worker_hears c.args.workers.now c.args.k c.index-workers-k.result c.report_one.new.worker c.report_one.ensures.hears
@@ -30,7 +31,8 @@ returns-clause-heard g c = looked_on c.args.driver.now c.hear_all.new.driver c.r
 pub returns-clause-reported : goal.returns-clause-reported
 returns-clause-reported g c = λ d.
     let e = c.hear_all.ensures in
-    reported_at c.args.driver.now.seen c.hear_all.new.driver.seen c.hear_all.new.clients c.args.workers.now c.args.k c.report_one.new.worker d c.requires.place.1 e.heard.later e.holds c.report_one.ensures.seen
+    reported_at c.args.driver.now.seen c.hear_all.new.driver.seen c.hear_all.new.clients c.args.workers.now c.args.k c.report_one.new.worker
+    d c.requires.place.1 e.heard.later e.holds c.report_one.ensures.seen
 
 pub returns-clause-back : goal.returns-clause-back
 returns-clause-back g c =

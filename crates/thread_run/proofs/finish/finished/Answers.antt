@@ -8,17 +8,21 @@ use Rattle.thread_run.proofs.finish.finished.Goals as goal
 
 -- a log less
 module _ (rows : List (List (Known Tx))) where
-  can_more : (logs ls : List Log) (ds es : List Driver) (os ps : List (Known Tx)) → 0 < length logs → CanFinish logs ds os rows → ls ≡ remove logs 0 → es ≡ remove ds 0 → ps ≡ remove os 0
+  can_more : (logs ls : List Log) (ds es : List Driver) (os ps : List (Known Tx)) → 0 < length logs → CanFinish logs ds os rows
+      → ls ≡ remove logs 0 → es ≡ remove ds 0 → ps ≡ remove os 0
       → CanFinish ls es ps (later_columns rows)
   can_more [] ls ds es os ps lt can a b e = absurd (omega (arith, lt))
   can_more (l ∷ logs) ls [] es os ps lt can a b e = absurd can
   can_more (l ∷ logs) ls (d ∷ ds) es [] ps lt can a b e = absurd can
   can_more (l ∷ logs) ls (d ∷ ds) es (o ∷ os) ps lt can a b e =
       subst (λ (x : List Log). CanFinish x es ps (later_columns rows)) (sym a)
-      (subst (λ (x : List Driver). CanFinish logs x ps (later_columns rows)) (sym b) (subst (λ (x : List (Known Tx)). CanFinish logs ds x (later_columns rows)) (sym e) can.2))
+      (subst (λ (x : List Driver). CanFinish logs x ps (later_columns rows)) (sym b)
+      (subst (λ (x : List (Known Tx)). CanFinish logs ds x (later_columns rows)) (sym e) can.2))
 
-  done_more : (logs : List Log) (ds es : List Driver) (os ps : List (Known Tx)) (d : Driver) (o : Known Tx) (x : List Tx) (rest : List (List Tx)) → 0 < length logs → CanFinish logs ds os rows
-      → d ≡ get_or ds 0 d → o ≡ get_or os 0 o → es ≡ remove ds 0 → ps ≡ remove os 0 → IsListOf (d.pass ∷ o ∷ column 0 rows) x → AreFinished es ps (later_columns rows) rest → AreFinished ds os rows (x ∷ rest)
+  done_more : (logs : List Log) (ds es : List Driver) (os ps : List (Known Tx)) (d : Driver) (o : Known Tx) (x : List Tx) (rest : List (List Tx))
+      → 0 < length logs → CanFinish logs ds os rows
+      → d ≡ get_or ds 0 d → o ≡ get_or os 0 o → es ≡ remove ds 0 → ps ≡ remove os 0 → IsListOf (d.pass ∷ o ∷ column 0 rows) x
+      → AreFinished es ps (later_columns rows) rest → AreFinished ds os rows (x ∷ rest)
   done_more [] ds es os ps d o x rest lt can id io a b is h = absurd (omega (arith, lt))
   done_more (l ∷ logs) [] es os ps d o x rest lt can id io a b is h = absurd can
   done_more (l ∷ logs) (v ∷ ds) es [] ps d o x rest lt can id io a b is h = absurd can
@@ -38,11 +42,15 @@ left-preserved c =
     let list = c.in_ok-list_of.field-0 in
     let pushed = c.in_ok-push.ensures.items in record {
       can = subst (CanFinish c.remove-log.new.self.items c.remove-driver.new.self.items c.remove-worker.new.self.items) (sym later)
-          (can_more rows c.left.logs.items c.remove-log.new.self.items c.left.drivers.items c.remove-driver.new.self.items c.left.own.items c.remove-worker.new.self.items some i.can c.remove-log.ensures.items
+          (can_more rows c.left.logs.items c.remove-log.new.self.items c.left.drivers.items c.remove-driver.new.self.items c.left.own.items
+          c.remove-worker.new.self.items some i.can c.remove-log.ensures.items
           c.remove-driver.ensures.items c.remove-worker.ensures.items);
-      done = λ rest h. subst (AreFinished c.args.drivers.items c.args.own.items (rows_of c.args.clients.items)) (sym (ap (λ (l : List (List Tx)). l ++ rest) pushed ∙ append_assoc c.left.lists.items (list ∷ []) rest))
-          (i.done (list ∷ rest) (done_more rows c.left.logs.items c.left.drivers.items c.remove-driver.new.self.items c.left.own.items c.remove-worker.new.self.items c.remove-driver.result c.remove-worker.result list rest
-          some i.can c.remove-driver.ensures.value c.remove-worker.ensures.value c.remove-driver.ensures.items c.remove-worker.ensures.items c.in_ok-list_of.ensures.list
+      done = λ rest h. subst (AreFinished c.args.drivers.items c.args.own.items (rows_of c.args.clients.items))
+          (sym (ap (λ (l : List (List Tx)). l ++ rest) pushed ∙ append_assoc c.left.lists.items (list ∷ []) rest))
+          (i.done (list ∷ rest) (done_more rows c.left.logs.items c.left.drivers.items c.remove-driver.new.self.items c.left.own.items
+          c.remove-worker.new.self.items c.remove-driver.result c.remove-worker.result list rest
+          some i.can c.remove-driver.ensures.value c.remove-worker.ensures.value c.remove-driver.ensures.items c.remove-worker.ensures.items
+          c.in_ok-list_of.ensures.list
           (subst (λ (r : List (List (Known Tx))). AreFinished c.remove-driver.new.self.items c.remove-worker.new.self.items r rest) later h)));
       count = (
           let new = c.remove-log.new.self.ok.0 in
@@ -54,4 +62,5 @@ left-preserved c =
 
 pub returns-clause-lists : goal.returns-clause-lists
 returns-clause-lists c =
-    subst (AreFinished c.args.drivers.items c.args.own.items (rows_of c.args.clients.items)) (append-nil c.left.lists.items ∙ sym c.of.ensures) (c.left.invariant.done [] tt)
+    subst (AreFinished c.args.drivers.items c.args.own.items (rows_of c.args.clients.items))
+    (append-nil c.left.lists.items ∙ sym c.of.ensures) (c.left.invariant.done [] tt)

@@ -6,12 +6,14 @@ use Rattle.thread_run.proofs.finish.join_clients.Goals as goal
 pub join_client-requires-clause-passes : goal.join_client-requires-clause-passes
 join_client-requires-clause-passes c =
     let lt : c.loop-k.k < length c.args.clients.now.items = omega (arith, c.loop-k-test.true, c.loop-k.invariant.count) in
-    passes_now c.loop-k.clients.items c.args.clients.now.items c.loop-k.k c.index_mut.result.now c.loop-k.invariant.rest c.index_mut.ensures.value (IsPassOf c.args.log.now) lt c.requires.passes
+    passes_now c.loop-k.clients.items c.args.clients.now.items c.loop-k.k c.index_mut.result.now c.loop-k.invariant.rest
+    c.index_mut.ensures.value (IsPassOf c.args.log.now) lt c.requires.passes
 
 pub join_client-requires-clause-row : goal.join_client-requires-clause-row
 join_client-requires-clause-row c =
     let lt : c.loop-k.k < length c.args.clients.now.items = omega (arith, c.loop-k-test.true, c.loop-k.invariant.count) in
-    some_now c.loop-k.clients.items c.args.clients.now.items c.loop-k.k c.index_mut.result.now c.loop-k.invariant.rest c.index_mut.ensures.value lt c.requires.rows
+    some_now c.loop-k.clients.items c.args.clients.now.items c.loop-k.k c.index_mut.result.now c.loop-k.invariant.rest
+    c.index_mut.ensures.value lt c.requires.rows
 
 pub loop-k-preserved : goal.loop-k-preserved
 loop-k-preserved c =

@@ -19,5 +19,6 @@ pub returns-clause-list : goal.returns-clause-list
 returns-clause-list c =
     IfOk-weaker _ _ _
     (λ list is. list_is c.args.driver.pass c.args.worker c.join.new.pass c.join_clients.new.pass (column 0 (rows_of c.args.clients.now.items)) list
-    c.join.ensures.joined c.join.ensures.seen c.join.ensures.reported c.join_clients.ensures.joined c.finish.ensures.own (subst IsArrivals c.finish.ensures.list c.finish.ensures.arrivals) (is ∙ c.finish.ensures.list))
+    c.join.ensures.joined c.join.ensures.seen c.join.ensures.reported c.join_clients.ensures.joined c.finish.ensures.own
+    (subst IsArrivals c.finish.ensures.list c.finish.ensures.arrivals) (is ∙ c.finish.ensures.list))
     c.txs-2.ensures

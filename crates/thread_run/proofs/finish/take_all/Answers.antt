@@ -26,8 +26,10 @@ loop-worker-preserved g c =
     let rest = into_iter_items c.next.new.self in
     let worker = c.in-Some.worker in
     let prefix = c.in-Some.ensures.steps.0 in record {
-      seats = one_more (map (λ w. w.seat)) (worker.seat ∷ []) old.seats.items new.seats.items (start.seats.items ++ map (λ w. w.seat) workers) left rest worker refl one.seats prefix i.seats;
-      own = one_more (map (λ w. w.log)) (worker.log ∷ []) old.own.items new.own.items (start.own.items ++ map (λ w. w.log) workers) left rest worker refl one.own prefix i.own;
+      seats = one_more (map (λ w. w.seat)) (worker.seat ∷ []) old.seats.items new.seats.items
+          (start.seats.items ++ map (λ w. w.seat) workers) left rest worker refl one.seats prefix i.seats;
+      own = one_more (map (λ w. w.log)) (worker.log ∷ []) old.own.items new.own.items
+          (start.own.items ++ map (λ w. w.log) workers) left rest worker refl one.own prefix i.own;
       left = search rules;
     }
 

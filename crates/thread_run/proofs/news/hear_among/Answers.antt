@@ -16,4 +16,5 @@ hear_each-requires-2-clause-receiver g c κs within =
 
 pub returns-clause-heard : goal.returns-clause-heard
 returns-clause-heard g c =
-    hears_among c.args.prefix.now c.args.back.now c.args.worker.now c.hear_each.new.receiver c.hear_own.new.worker c.hear_each-2.new.receiver c.hear_each.ensures.heard c.hear_own.ensures.heard c.hear_each-2.ensures.heard
+    hears_among c.args.prefix.now c.args.back.now c.args.worker.now c.hear_each.new.receiver c.hear_own.new.worker
+    c.hear_each-2.new.receiver c.hear_each.ensures.heard c.hear_own.ensures.heard c.hear_each-2.ensures.heard

@@ -16,13 +16,15 @@ returns g c =
       heard = λ d.
           ap (λ (l : List (Working g.row.S.Denot)). l ++ (slice_set own 0 new.worker ++ new.back)) e.prefix
           ∙ ap (λ (l : List (Working g.row.S.Denot)). prefix ++ (slice_set own 0 new.worker ++ l)) e.back
-          ∙ exchanged informed c.args.workers.now prefix s.result.1.now own t.result.1.now c.args.at c.index-own-0.result d new.worker s.ensures.value s.ensures.front_len t.ensures.value t.ensures.front_len e.heard;
+          ∙ exchanged informed c.args.workers.now prefix s.result.1.now own t.result.1.now c.args.at c.index-own-0.result d new.worker
+          s.ensures.value s.ensures.front_len t.ensures.value t.ensures.front_len e.heard;
     }
 
 pub hear_among-requires-clause-prefix : goal.hear_among-requires-clause-prefix
 hear_among-requires-clause-prefix g c κs within =
     let s = c.split_at_mut-prefix in
-    all_before (Ready c.args.world.now.logs.items c.args.world.now.boxes.items) c.args.workers.now s.result.0.now s.result.1.now s.ensures.value c.requires.ready
+    all_before (Ready c.args.world.now.logs.items c.args.world.now.boxes.items) c.args.workers.now s.result.0.now s.result.1.now
+    s.ensures.value c.requires.ready
 
 pub hear_among-requires-clause-worker : goal.hear_among-requires-clause-worker
 hear_among-requires-clause-worker g c κs within =

@@ -20,7 +20,9 @@ pub hear_one-requires-clause-sender : goal.hear_one-requires-clause-sender
 hear_one-requires-clause-sender g c κs within =
     let test = c.loop-k-test.true in
     let len = c.loop-k.auto.senders in
-    subst (λ (cs : List (Working g.row.S.Denot)). Ready c.args.world.now.logs.items c.args.world.now.boxes.items (get_or cs c.loop-k.k c.index-senders-k.result)) (sym c.loop-k.invariant.0)
+    subst (λ (cs : List (Working g.row.S.Denot)).
+    Ready c.args.world.now.logs.items c.args.world.now.boxes.items (get_or cs c.loop-k.k c.index-senders-k.result))
+    (sym c.loop-k.invariant.0)
     (c.requires.senders c.loop-k.k c.index-senders-k.result (omega (arith, test, len)))
 
 pub loop-k-preserved : goal.loop-k-preserved
@@ -35,7 +37,8 @@ loop-k-preserved g c =
     let test = c.loop-k-test.true in
     let len = c.loop-k.auto.senders in (
       ap (slice_set c.loop-k.senders k) one.same ∙ same_set c.loop-k.senders k d ∙ i.0,
-      hears_more senders k d c.args.receiver.now now next (omega (arith, test, len)) i.1 (subst (λ (cs : List (Working g.row.S.Denot)). next ≡ record now { take = heard_from now.at now.take (get_or cs k d) }) i.0 one.heard),
+      hears_more senders k d c.args.receiver.now now next (omega (arith, test, len)) i.1
+          (subst (λ (cs : List (Working g.row.S.Denot)). next ≡ record now { take = heard_from now.at now.take (get_or cs k d) }) i.0 one.heard),
     )
 
 pub returns : goal.returns
@@ -44,5 +47,7 @@ returns g c =
     let last = c.loop-k-test.false in
     let len = c.loop-k.auto.senders in record {
       same = i.0;
-      heard = i.1 ∙ ap (λ (cs : List (Working g.row.S.Denot)). informed cs c.args.receiver.now) (take_all c.loop-k.k c.args.senders.now (omega (arith, last, len)));
+      heard = i.1
+          ∙ ap (λ (cs : List (Working g.row.S.Denot)). informed cs c.args.receiver.now)
+          (take_all c.loop-k.k c.args.senders.now (omega (arith, last, len)));
     }

@@ -16,7 +16,9 @@ pub hear-requires-clause-sender : goal.hear-requires-clause-sender
 hear-requires-clause-sender c =
     let z = zip_length IsSenderOf _ _ c.requires.senders in
     let p = c.requires.place in
-    let there = zip_at IsSenderOf c.args.boxes.now c.args.sends.now c.args.at c.index-boxes-at.result c.index-sends-at.result c.requires.senders (omega (arith, z, p)) in
+    let there =
+    zip_at IsSenderOf c.args.boxes.now c.args.sends.now c.args.at c.index-boxes-at.result c.index-sends-at.result c.requires.senders
+    (omega (arith, z, p)) in
     search rules
 
 pub returns-clause-heard : goal.returns-clause-heard
@@ -24,4 +26,6 @@ returns-clause-heard c =
     let z = zip_length IsSenderOf _ _ c.requires.senders in
     let p = c.requires.place in
     let below : c.args.at < length c.args.sends.now = omega (arith, z, p) in
-    c.hear.ensures.0 ∙ ap (λ (o : Option Sender). option_map_or (heard_more c.args.take.now) o c.args.take.now) (sym (slice_get-get_or c.args.sends.now c.args.at c.index-sends-at.result below))
+    c.hear.ensures.0
+    ∙ ap (λ (o : Option Sender). option_map_or (heard_more c.args.take.now) o c.args.take.now)
+    (sym (slice_get-get_or c.args.sends.now c.args.at c.index-sends-at.result below))

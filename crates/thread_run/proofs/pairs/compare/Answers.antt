@@ -14,7 +14,9 @@ pub all_taken-requires-clause-sender : goal.all_taken-requires-clause-sender
 all_taken-requires-clause-sender g c =
     let z = zip_length IsSenderOf _ _ c.requires.senders in
     let p = c.requires.place in
-    let there = zip_at IsSenderOf c.args.boxes.now c.args.sends.now c.args.at c.index-boxes-at.result c.index-sends-at.result c.requires.senders (omega (arith, z, p)) in
+    let there =
+    zip_at IsSenderOf c.args.boxes.now c.args.sends.now c.args.at c.index-boxes-at.result c.index-sends-at.result c.requires.senders
+    (omega (arith, z, p)) in
     search rules
 
 pub returns-clause-compared : goal.returns-clause-compared

@@ -10,4 +10,5 @@ returns-then-receiver-sender-clause-same g c =
 
 pub returns-then-receiver-sender-clause-answers : goal.returns-then-receiver-sender-clause-answers
 returns-then-receiver-sender-clause-answers g c =
-    with_itself c.args.workers.now c.args.receiver c.args.sender c.index-workers-receiver.result c.own_is_whole.result c.if-receiver-sender.true c.requires.places.0 c.own_is_whole.ensures.answers
+    with_itself c.args.workers.now c.args.receiver c.args.sender c.index-workers-receiver.result c.own_is_whole.result
+    c.if-receiver-sender.true c.requires.places.0 c.own_is_whole.ensures.answers

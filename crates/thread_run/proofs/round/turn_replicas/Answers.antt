@@ -8,7 +8,8 @@ pub returns-then-threads-gt0-clause-worked : goal.returns-then-threads-gt0-claus
 returns-then-threads-gt0-clause-worked g c =
     zip_of _ _ _ (search rules)
     (λ i d lt. (let k = (c.for_each_mut.ensures i d lt).1 in
-    subst (λ (p : Working g.row.S.Denot × Working g.row.S.Denot). Worked (g.C.Checker.meaning c.args.checker.now) c.args.plan.now (meaning g.S.Sealer.replica g.S.Sealer.gives) c.args.world.now.logs.items c.args.world.now.boxes.items c.args.tick p.0 p.1)
+    subst (λ (p : Working g.row.S.Denot × Working g.row.S.Denot). Worked (g.C.Checker.meaning c.args.checker.now) c.args.plan.now
+    (meaning g.S.Sealer.replica g.S.Sealer.gives) c.args.world.now.logs.items c.args.world.now.boxes.items c.args.tick p.0 p.1)
     (λ j. (k.argument_is j, k.left j)) (let q = k.call in search rules)))
 
 pub returns-then-threads-gt0-clause-few : goal.returns-then-threads-gt0-clause-few

@@ -28,7 +28,8 @@ loop-at-preserved g c =
     let e = c.in_ok-turns.ensures in
     let r = c.index-workers-at.result in
     let is = c.index-workers-at.is in
-    counted_more c.args.workers.now c.loop-at.at c.loop-at.turns c.in_ok-turns.field-0 r lt c.loop-at.invariant (e.0 ∙ ap turns_by is) (subst (λ (w : Working g.row.S.Denot). w.failed ≡ false) is e.1) (c.requires.each c.loop-at.at r lt)
+    counted_more c.args.workers.now c.loop-at.at c.loop-at.turns c.in_ok-turns.field-0 r lt c.loop-at.invariant (e.0 ∙ ap turns_by is)
+    (subst (λ (w : Working g.row.S.Denot). w.failed ≡ false) is e.1) (c.requires.each c.loop-at.at r lt)
 
 pub returns : goal.returns
 returns g c =

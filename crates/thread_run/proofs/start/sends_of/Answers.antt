@@ -17,5 +17,6 @@ pub loop-at-preserved : goal.loop-at-preserved
 loop-at-preserved c = record {
   passes = c.in_ok-first_of_each.ensures.rest ∙ ap later_columns c.loop-at.invariant.passes ∙ later_dropped c.loop-at.at (rows_in c.args.passes.items);
   sends = ap rows_in c.in_ok-push.ensures.items
-      ∙ sends_more c.loop-at.sends.items c.in_ok-first_of_each.field-0 c.loop-at.at (rows_in c.args.passes.items) (rows_in c.loop-at.passes.items) c.loop-at.invariant.passes c.in_ok-first_of_each.ensures.first c.loop-at.invariant.sends;
+      ∙ sends_more c.loop-at.sends.items c.in_ok-first_of_each.field-0 c.loop-at.at (rows_in c.args.passes.items)
+      (rows_in c.loop-at.passes.items) c.loop-at.invariant.passes c.in_ok-first_of_each.ensures.first c.loop-at.invariant.sends;
 }

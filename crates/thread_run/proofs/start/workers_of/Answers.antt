@@ -12,8 +12,10 @@ use Rattle.thread_run.proofs.InitialLists.{none_left}
 use Rattle.thread_run.proofs.start.workers_of.Goals as goal
 
 -- one worker more
-made : {S : Type 0} (workers more whole : List (Working S)) (at : ℕ) (w : Working S) (seats ss : List (Seated S)) (s : Seated S) (own os : List (Known Tx)) (o : Known Tx) (takes ts : List Receiver) (t : Receiver)
-    (sends rs : List (Vec SendPass)) (row : Vec SendPass) → seats ≡ s ∷ ss → own ≡ o ∷ os → takes ≡ t ∷ ts → sends ≡ row ∷ rs → w ≡ worker_with at s o t row.items → more ≡ workers ++ w ∷ []
+made : {S : Type 0} (workers more whole : List (Working S)) (at : ℕ) (w : Working S) (seats ss : List (Seated S)) (s : Seated S)
+    (own os : List (Known Tx)) (o : Known Tx) (takes ts : List Receiver) (t : Receiver)
+    (sends rs : List (Vec SendPass)) (row : Vec SendPass) → seats ≡ s ∷ ss → own ≡ o ∷ os → takes ≡ t ∷ ts → sends ≡ row ∷ rs
+    → w ≡ worker_with at s o t row.items → more ≡ workers ++ w ∷ []
     → workers ++ (workers_from at seats own takes (rows_in sends)) ≡ whole → more ++ (workers_from (at + 1) ss os ts (rows_in rs)) ≡ whole
 made {S = S} workers more whole at w seats ss s own os o takes ts t sends rs row es eo et er new is all =
     let left : List (Working S) = (workers_from (at + 1) ss os ts (rows_in rs)) in
@@ -36,15 +38,20 @@ left-preserved g c =
     let takes = i.takes in
     let sends = i.sends in
     let es = first c.left.seats.items c.remove-seat.new.self.items c.remove-seat.result some c.remove-seat.ensures.value c.remove-seat.ensures.items in
-    let eo = first c.left.own.items c.remove-log.new.self.items c.remove-log.result (omega (arith, some, own)) c.remove-log.ensures.value c.remove-log.ensures.items in
-    let et = first c.left.takes.items c.remove-take.new.self.items c.remove-take.result (omega (arith, some, takes)) c.remove-take.ensures.value c.remove-take.ensures.items in
-    let er = first c.left.sends.items c.remove-row.new.self.items c.remove-row.result (omega (arith, some, sends)) c.remove-row.ensures.value c.remove-row.ensures.items in
+    let eo = first c.left.own.items c.remove-log.new.self.items c.remove-log.result
+    (omega (arith, some, own)) c.remove-log.ensures.value c.remove-log.ensures.items in
+    let et = first c.left.takes.items c.remove-take.new.self.items c.remove-take.result
+    (omega (arith, some, takes)) c.remove-take.ensures.value c.remove-take.ensures.items in
+    let er = first c.left.sends.items c.remove-row.new.self.items c.remove-row.result
+    (omega (arith, some, sends)) c.remove-row.ensures.value c.remove-row.ensures.items in
     let ls = ap length es in
     let lo = ap length eo in
     let lt = ap length et in
     let lr = ap length er in record {
-      workers = made c.left.workers.items c.push.new.self.items _ c.left.at c.new_worker.result c.left.seats.items c.remove-seat.new.self.items c.remove-seat.result c.left.own.items c.remove-log.new.self.items c.remove-log.result
-          c.left.takes.items c.remove-take.new.self.items c.remove-take.result c.left.sends.items c.remove-row.new.self.items c.remove-row.result es eo et er c.new_worker.ensures c.in_ok-push.ensures.items i.workers;
+      workers = made c.left.workers.items c.push.new.self.items _ c.left.at c.new_worker.result c.left.seats.items
+          c.remove-seat.new.self.items c.remove-seat.result c.left.own.items c.remove-log.new.self.items c.remove-log.result
+          c.left.takes.items c.remove-take.new.self.items c.remove-take.result c.left.sends.items c.remove-row.new.self.items
+          c.remove-row.result es eo et er c.new_worker.ensures c.in_ok-push.ensures.items i.workers;
       few = omega (arith, few, ls);
       own = omega (arith, own, ls, lo);
       takes = omega (arith, takes, ls, lt);

@@ -36,11 +36,14 @@ module _ (bytes : List ℕ) (o : Opening) (rest : List ℕ) (read : opening_at b
   lists_blame (Left left) e = opened ∙ ap (λ (r : Result (List (List Tx) × List ℕ) ℕ). go_on r (with_lists o)) e
   lists_blame NoMemory e = tt
 
-  listed : (arrivals : List (List Tx)) (following : List ℕ) → lists_of o rest ≡ Ok (arrivals, following) → contents_at bytes ≡ go_on (accounts_of o following) (with_accounts o arrivals)
+  listed : (arrivals : List (List Tx)) (following : List ℕ) → lists_of o rest ≡ Ok (arrivals, following)
+      → contents_at bytes ≡ go_on (accounts_of o following) (with_accounts o arrivals)
   listed arrivals following e = opened ∙ ap (λ (r : Result (List (List Tx) × List ℕ) ℕ). go_on r (with_lists o)) e
 
-  accounts_blame : (arrivals : List (List Tx)) (following : List ℕ) (stop : Stop) → lists_of o rest ≡ Ok (arrivals, following) → Blames stop (accounts_of o following) → Blames stop (contents_at bytes)
-  accounts_blame arrivals following (Left left) e f = listed arrivals following e ∙ ap (λ (r : Result (List Account × List ℕ) ℕ). go_on r (with_accounts o arrivals)) f
+  accounts_blame : (arrivals : List (List Tx)) (following : List ℕ) (stop : Stop) → lists_of o rest ≡ Ok (arrivals, following)
+      → Blames stop (accounts_of o following) → Blames stop (contents_at bytes)
+  accounts_blame arrivals following (Left left) e f =
+      listed arrivals following e ∙ ap (λ (r : Result (List Account × List ℕ) ℕ). go_on r (with_accounts o arrivals)) f
   accounts_blame arrivals following NoMemory e f = tt
 
 pub returns-in_err-arrivals : goal.returns-in_err-arrivals
@@ -54,7 +57,8 @@ returns-in_err-accounts c =
     let p = err_from_is_err_and c.from_residual-in_err-accounts.result c.from_residual-in_err-accounts.ensures.1 in
     let lists = rw c.n-n.ensures.value at c.in_ok-arrivals.ensures in
     let h = rw c.n-n.ensures.value at c.in_err-accounts.ensures in
-    rw (p.1, p.2) (accounts_blame c.args.bytes.now c.in-Ok.read.0 c.in-Ok.read.1.now c.in-Ok.ensures.gives c.in_ok-arrivals.arrivals.items c.in_ok-arrivals.rest.now c.in_err-accounts.field-0.0 lists h)
+    rw (p.1, p.2) (accounts_blame c.args.bytes.now c.in-Ok.read.0 c.in-Ok.read.1.now c.in-Ok.ensures.gives c.in_ok-arrivals.arrivals.items
+    c.in_ok-arrivals.rest.now c.in_err-accounts.field-0.0 lists h)
 
 pub returns : goal.returns
 returns c =

@@ -13,7 +13,8 @@ pub returns : goal.returns
 returns c =
     let start = c.args.out.now.items in
     let run = c.args.run.now in
-    let last : c.loop-replica.replica ≡ run.setting.n = omega (arith, c.loop-replica.auto.replica-end, c.loop-replica-test.false, c.n-replica-end.ensures.value) in
+    let last : c.loop-replica.replica ≡ run.setting.n =
+    omega (arith, c.loop-replica.auto.replica-end, c.loop-replica-test.false, c.n-replica-end.ensures.value) in
     c.loop-replica.invariant
     ∙ ap (λ (k : ℕ). start ++ flat_map (account_text run) (range_with_len 0 k)) last
     ∙ ap (λ (z : List ℕ). start ++ z) (sym (accounts_text run run.setting.n 0))

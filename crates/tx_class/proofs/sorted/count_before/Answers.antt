@@ -10,4 +10,5 @@ returns-clause-value c =
     let list = c.args.list.now in
     let t = c.args.tx.now in
     counted (λ x. is_lt (tx_cmp x t)) list c.partition_point.result c.partition_point.ensures.bound
-    (IsPartitionPoint-from_clause (λ x. is_lt (tx_cmp x t)) list c.partition_point.result c.partition_point.ensures.partitioned (parted_lt list t c.requires) (λ a r f k. search (rules, of_calls)))
+    (IsPartitionPoint-from_clause (λ x. is_lt (tx_cmp x t)) list c.partition_point.result c.partition_point.ensures.partitioned
+    (parted_lt list t c.requires) (λ a r f k. search (rules, of_calls)))

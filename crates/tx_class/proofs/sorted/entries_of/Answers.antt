@@ -11,4 +11,10 @@ returns-clause-counts c = λ t. sum_by-IsPermutation (λ x. cond (tx_eq x t) 1 0
 
 pub returns-clause-few : goal.returns-clause-few
 returns-clause-few c =
-    omega (arith, few_joined c.args.lists.now c.requires, length-flat_map (λ (list : List Tx). list) c.args.lists.now, c.in_ok-entries.ensures.few, length_permutation _ _ c.in_ok-sort.ensures.permutation)
+    omega (
+      arith,
+      few_joined c.args.lists.now c.requires,
+      length-flat_map (λ (list : List Tx). list) c.args.lists.now,
+      c.in_ok-entries.ensures.few,
+      length_permutation _ _ c.in_ok-sort.ensures.permutation,
+    )

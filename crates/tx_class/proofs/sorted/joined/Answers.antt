@@ -10,7 +10,8 @@ loop-list-preserved c =
     let at = c.loop-list.list-index in
     let list = c.list-item.result in
     rw (c.in_ok-extend_from_slice.ensures.items, c.deref.ensures.value) (
-      (λ t. joined_more c.args.lists.now at c.loop-list.all.items held list t (omega arith) c.list-item.is (c.loop-list.invariant.0 t) c.in_ok-held.ensures.ascending
+      (λ t. joined_more c.args.lists.now at c.loop-list.all.items held list t (omega arith) c.list-item.is
+          (c.loop-list.invariant.0 t) c.in_ok-held.ensures.ascending
           (c.in_ok-held.ensures.same t ∙ ap (holds t) c.as_slice.ensures)),
       longer c.args.lists.now at c.loop-list.all.items held list (omega arith) c.list-item.is c.loop-list.invariant.1
           (rw (← c.as_slice.ensures) c.in_ok-held.ensures.few),

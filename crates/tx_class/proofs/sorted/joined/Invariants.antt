@@ -6,4 +6,5 @@ use Rattle.tx_class.specs.Sorted.{times}
 use Rattle.tx_class.proofs.sorted.joined.Given as goal
 
 abbrev pub invariant-loop-list : goal.invariant-loop-list
-invariant-loop-list l = ((t : Tx) → times t l.all.items ≡ listed (take l.list-index l.lists) t) × (length l.all.items ≤ sum_by length (take l.list-index l.lists))
+invariant-loop-list l = ((t : Tx) → times t l.all.items ≡ listed (take l.list-index l.lists) t)
+    × (length l.all.items ≤ sum_by length (take l.list-index l.lists))

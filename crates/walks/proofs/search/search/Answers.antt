@@ -18,20 +18,23 @@ inside c = rw (← c.deref.ensures.value) c.in-Some.ensures.inside
 is_open : (c : After-follow) → get_or c.loop-at.marks.items c.in-Some.at Unseen ≡ Open
 is_open c = rw (← c.deref.ensures.value) c.in-Some.ensures.«open»
 
-follows : (c : After-follow) (v : ℕ) → get_or c.follow.new.marks v Unseen ≡ opened (edge_at c.args.graph.now c.in-Some.at v) (get_or (set c.loop-at.marks.items c.in-Some.at Done) v Unseen)
+follows : (c : After-follow) (v : ℕ) → get_or c.follow.new.marks v Unseen
+    ≡ opened (edge_at c.args.graph.now c.in-Some.at v) (get_or (set c.loop-at.marks.items c.in-Some.at Done) v Unseen)
 follows c v = rw (← c.deref_mut.ensures.value) (c.follow.ensures v)
 
 long : (c : After-follow) → length c.follow.new.marks ≡ length (set c.loop-at.marks.items c.in-Some.at Done)
 long c = rw (← c.deref_mut.ensures.value) (c.follow.auto.marks)
 
 left : (c : After-follow) → (with_items (with_item c.loop-at.marks c.in-Some.at Done) c.follow.new.marks).items ≡ c.follow.new.marks
-left c = with_items_is (with_item c.loop-at.marks c.in-Some.at Done) c.follow.new.marks (long c ∙ length-set c.loop-at.marks.items c.in-Some.at Done ∙ sym c.loop-at.marks.ok.0)
+left c = with_items_is (with_item c.loop-at.marks c.in-Some.at Done) c.follow.new.marks
+    (long c ∙ length-set c.loop-at.marks.items c.in-Some.at Done ∙ sym c.loop-at.marks.ok.0)
 
 pub loop-at-smaller : goal.loop-at-smaller
 loop-at-smaller c =
     let d = (goal.at.loop-at-smaller c).After-follow in
     subst (λ (marks : List Mark). undone marks < undone c.loop-at.marks.items) (sym (left d))
-    (fewer_undone (edge_at c.args.graph.now) (λ v. v ≡ c.args.from) (Walks (HasEdge c.args.graph.now) c.args.from) (length c.args.graph.now.vertices) c.in-Some.at
+    (fewer_undone (edge_at c.args.graph.now) (λ v. v ≡ c.args.from) (Walks (HasEdge c.args.graph.now) c.args.from)
+    (length c.args.graph.now.vertices) c.in-Some.at
     c.loop-at.marks.items c.follow.new.marks c.loop-at.invariant (inside d) (is_open d) (long d) (follows d))
 
 pub loop-at-preserved : goal.loop-at-preserved
@@ -44,5 +47,7 @@ loop-at-preserved c =
 
 pub returns-clause-done : goal.returns-clause-done
 returns-clause-done c = λ v.
-    let none = rw c.deref.ensures.value at c.in_default.ensures.none in
-    (found c.args.graph.now c.args.from c.loop-at.marks.items c.loop-at.invariant none v, walked c.args.graph.now c.args.from c.loop-at.marks.items c.loop-at.invariant none v)
+    let none = rw c.deref.ensures.value at c.in_default.ensures.none in (
+      found c.args.graph.now c.args.from c.loop-at.marks.items c.loop-at.invariant none v,
+      walked c.args.graph.now c.args.from c.loop-at.marks.items c.loop-at.invariant none v,
+    )

@@ -14,13 +14,15 @@ loop-vote-init c =
     let view = to_be_bytes w32 cert.view in
     let count = to_be_bytes w8 (length c.as_slice-votes.result.now) in
     none_put out (view ++ cert.block.0 ++ count) c.put_u8_count.new.out.items
-    (three_put out view cert.block.0 count c.put_u32.new.out.items c.put_digest.new.out.items c.put_u8_count.new.out.items c.in_ok-put_u32.ensures c.in_ok-put_digest.ensures c.in_ok-put_u8_count.ensures)
+    (three_put out view cert.block.0 count c.put_u32.new.out.items c.put_digest.new.out.items c.put_u8_count.new.out.items
+    c.in_ok-put_u32.ensures c.in_ok-put_digest.ensures c.in_ok-put_u8_count.ensures)
 
 pub loop-vote-preserved : goal.loop-vote-preserved
 loop-vote-preserved c =
     let cert = c.args.cert.now in
     let votes = c.as_slice-votes.result.now in
-    one_more_put cert_vote_spelling c.args.out.now.items (to_be_bytes w32 cert.view ++ cert.block.0 ++ to_be_bytes w8 (length votes)) c.loop-vote.out.items c.put_cert_vote.new.out.items
+    one_more_put cert_vote_spelling c.args.out.now.items
+    (to_be_bytes w32 cert.view ++ cert.block.0 ++ to_be_bytes w8 (length votes)) c.loop-vote.out.items c.put_cert_vote.new.out.items
     votes c.loop-vote.vote-index c.vote-item.result c.loop-vote-test.true c.loop-vote.invariant
     (c.in_ok-put_cert_vote.ensures ∙ ap (λ (vote : CertVote). c.loop-vote.out.items ++ cert_vote_spelling vote) c.vote-item.is)
 
@@ -31,5 +33,6 @@ returns c =
     let prefix : List ℕ = to_be_bytes w32 cert.view ++ cert.block.0 in
     let votes = c.as_slice-votes.result.now in
     c.loop-vote.invariant
-    ∙ ap (λ (vs : List CertVote). out ++ (prefix ++ to_be_bytes w8 (length votes) ++ flat_map cert_vote_spelling vs)) (take_all c.loop-vote.vote-index votes c.loop-vote-test.false)
+    ∙ ap (λ (vs : List CertVote). out ++ (prefix ++ to_be_bytes w8 (length votes) ++ flat_map cert_vote_spelling vs))
+    (take_all c.loop-vote.vote-index votes c.loop-vote-test.false)
     ∙ ap (λ (vs : List CertVote). out ++ (prefix ++ to_be_bytes w8 (length vs) ++ flat_map cert_vote_spelling vs)) c.as_slice-votes.ensures

@@ -11,22 +11,29 @@ returns-then-not-is_idle-clause-found g c = not_idle (g.C.Checker.meaning c.args
 
 pub returns-then-not-seals_its_own-clause-found : goal.returns-then-not-seals_its_own-clause-found
 returns-then-not-seals_its_own-clause-found g c =
-    not_own (g.C.Checker.meaning c.args.checker.now) c.args.self.now c.args.entry.now (sym c.if-not-is_idle.ensures) (subst (λ (j : Audited). are_own j.replica c.args.entry.now.turned.sealed ≡ false) c.self.view_is (sym c.if-not-seals_its_own.ensures))
+    not_own (g.C.Checker.meaning c.args.checker.now) c.args.self.now c.args.entry.now (sym c.if-not-is_idle.ensures)
+    (subst (λ (j : Audited). are_own j.replica c.args.entry.now.turned.sealed ≡ false) c.self.view_is (sym c.if-not-seals_its_own.ensures))
 
 pub returns-then-not-branch-clause-found : goal.returns-then-not-branch-clause-found
 returns-then-not-branch-clause-found g c =
-    not_new (g.C.Checker.meaning c.args.checker.now) c.args.self.now c.args.entry.now (sym c.if-not-is_idle.ensures) (subst (λ (j : Audited). are_own j.replica c.args.entry.now.turned.sealed ≡ true) c.self.view_is (sym c.if-not-seals_its_own.ensures)) (sym c.in_ok-marks_anew.ensures.test ∙ c.if-not-branch.true)
+    not_new (g.C.Checker.meaning c.args.checker.now) c.args.self.now c.args.entry.now (sym c.if-not-is_idle.ensures)
+    (subst (λ (j : Audited). are_own j.replica c.args.entry.now.turned.sealed ≡ true) c.self.view_is (sym c.if-not-seals_its_own.ensures))
+    (sym c.in_ok-marks_anew.ensures.test ∙ c.if-not-branch.true)
 
 pub returns-clause-found : goal.returns-clause-found
 returns-clause-found g c =
-    takes_as (g.C.Checker.meaning c.args.checker.now) c.args.self.now c.marks_anew.new.self c.args.entry.now c.brings.result (sym c.if-not-is_idle.ensures) (subst (λ (j : Audited). are_own j.replica c.args.entry.now.turned.sealed ≡ true) c.self.view_is (sym c.if-not-seals_its_own.ensures))
+    takes_as (g.C.Checker.meaning c.args.checker.now) c.args.self.now c.marks_anew.new.self c.args.entry.now c.brings.result
+    (sym c.if-not-is_idle.ensures)
+    (subst (λ (j : Audited). are_own j.replica c.args.entry.now.turned.sealed ≡ true) c.self.view_is (sym c.if-not-seals_its_own.ensures))
     (sym c.in_ok-marks_anew.ensures.test ∙ c.if-not-branch.false)
     (c.in_ok-marks_anew.ensures.marks c.if-not-branch.false) c.brings.ensures.carried
 
 pub returns-clause-taken : goal.returns-clause-taken
 returns-clause-taken g c =
-    takes_from c.args.self.now c.marks_anew.new.self (marked c.args.self.now.marks (marks_in c.args.entry.now.turned.sealed)) c.brings.result (c.in_ok-marks_anew.ensures.marks c.if-not-branch.false) c.brings.ensures.taken
+    takes_from c.args.self.now c.marks_anew.new.self (marked c.args.self.now.marks (marks_in c.args.entry.now.turned.sealed)) c.brings.result
+    (c.in_ok-marks_anew.ensures.marks c.if-not-branch.false) c.brings.ensures.taken
 
 pub returns-clause-marks : goal.returns-clause-marks
 returns-clause-marks g c =
-    takes_with (c.marks_anew.new.self ≡ record c.args.self.now { marks = marked c.args.self.now.marks (marks_in c.args.entry.now.turned.sealed) }) c.brings.result (c.in_ok-marks_anew.ensures.marks c.if-not-branch.false)
+    takes_with (c.marks_anew.new.self ≡ record c.args.self.now { marks = marked c.args.self.now.marks (marks_in c.args.entry.now.turned.sealed) })
+    c.brings.result (c.in_ok-marks_anew.ensures.marks c.if-not-branch.false)

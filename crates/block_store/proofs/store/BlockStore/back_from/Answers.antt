@@ -21,4 +21,5 @@ loop-step-preserved c =
     let more = after_more store at c.in-Some.parent (length store) c.loop-step._step (omega (arith, c.len-step-end.ensures)) is in
     let pushed : reverse (back ++ at ∷ []) ≡ at ∷ reverse back = reverse-append back (at ∷ []) in
     (rw more at c.loop-step.invariant)
-    ∙ rw (c.in_ok-push-in-Some.ensures.items, pushed) (append_assoc (following (length store - (c.loop-step._step + 1)) store c.in-Some.parent) (at ∷ []) (reverse back))
+    ∙ rw (c.in_ok-push-in-Some.ensures.items, pushed)
+    (append_assoc (following (length store - (c.loop-step._step + 1)) store c.in-Some.parent) (at ∷ []) (reverse back))

@@ -14,4 +14,5 @@ returns-in-Pending c =
     rw c.in-Pending.is (on_ok_weaker c.insert_all.result (λ inserted t.
     inserted t
     ∙ ap (λ (x : Bool). is_among c.args.set.now.keys t || x)
-    (ap (holds t) (c.waiting.ensures.waiting ∙ ap waiting_of c.deref.ensures) ∙ holds-waiting c.in-Pending.pending.value t graph)) c.insert_all.ensures.inserted)
+    (ap (holds t) (c.waiting.ensures.waiting ∙ ap waiting_of c.deref.ensures) ∙ holds-waiting c.in-Pending.pending.value t graph))
+    c.insert_all.ensures.inserted)

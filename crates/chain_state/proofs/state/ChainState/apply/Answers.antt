@@ -18,7 +18,8 @@ use Rattle.chain_state.proofs.state.ChainState.apply.Goals.{After-drop-made-2}
 pub invariant_of-self-in_err-push : goal.invariant_of-self-in_err-push
 invariant_of-self-in_err-push c =
     rw c.in_err-push.ensures.items
-    (kept_reordered (map shown c.self.inside.proposals.items) c.self.inside.pending.items c.self.inside.used.keys c.reserve.new.self.keys c.self.inside.waiting.keys c.self.invariant (λ t. c.reserve.ensures.keys.2 t))
+    (kept_reordered (map shown c.self.inside.proposals.items) c.self.inside.pending.items c.self.inside.used.keys c.reserve.new.self.keys
+    c.self.inside.waiting.keys c.self.invariant (λ t. c.reserve.ensures.keys.2 t))
 
 pub put_back-requires : goal.put_back-requires
 put_back-requires c =
@@ -38,7 +39,8 @@ went_on c =
     c.put_back.ensures ∙ ap (put_all (map placed c.in_ok-made.made.stepped.items)) pushed
     ∙ stages_go_on c.args.self.now (lists_of c.args.block.now) own _ _ _ [] _ c.in_ok-made.ensures
 
-left : (c : After-drop-made-2) → map shown (with_items c.push.new.self c.put_back.new.proposals).items ≡ (applied c.args.self.now (lists_of c.args.block.now)).stages
+left : (c : After-drop-made-2)
+    → map shown (with_items c.push.new.self c.put_back.new.proposals).items ≡ (applied c.args.self.now (lists_of c.args.block.now)).stages
 left c =
     ap (map shown) (with_items_is c.push.new.self c.put_back.new.proposals (omega (arith, c.put_back.auto.proposals, c.deref_mut.ensures.len))) ∙ went_on c
 
@@ -50,14 +52,18 @@ pub invariant_of-self-2 : goal.invariant_of-self-2
 invariant_of-self-2 c =
     let stages : List Stage = c.args.self.now.stages in
     let kept : KeepsStandings stages c.self.inside.pending.items c.reserve.new.self.keys c.self.inside.waiting.keys =
-    subst (λ (ss : List Stage). KeepsStandings ss c.self.inside.pending.items c.reserve.new.self.keys c.self.inside.waiting.keys) (ap (λ (v : Standings). v.stages) c.self.view_is)
-    (kept_reordered (map shown c.self.inside.proposals.items) c.self.inside.pending.items c.self.inside.used.keys c.reserve.new.self.keys c.self.inside.waiting.keys c.self.invariant (λ t. c.reserve.ensures.keys.2 t)) in
+    subst (λ (ss : List Stage). KeepsStandings ss c.self.inside.pending.items c.reserve.new.self.keys c.self.inside.waiting.keys)
+    (ap (λ (v : Standings). v.stages) c.self.view_is)
+    (kept_reordered (map shown c.self.inside.proposals.items) c.self.inside.pending.items c.self.inside.used.keys c.reserve.new.self.keys
+    c.self.inside.waiting.keys c.self.invariant (λ t. c.reserve.ensures.keys.2 t)) in
     let inserted : (t : Tx) → is_among c.insert_all.new.set.keys t ≡ (is_among c.reserve.new.self.keys t || holds t c.deref.result.now) =
     ok_gives ((t : Tx) → is_among c.insert_all.new.set.keys t ≡ (is_among c.reserve.new.self.keys t || holds t c.deref.result.now)) c.insert_all.result
     (c.insert_all.ensures.room (omega (arith, c.in_ok-reserve.ensures.ok, c.len.ensures, c.deref.ensures.len))) c.insert_all.ensures.inserted in
     subst (λ (ss : List Stage). KeepsStandings ss c.in_ok-made.made.pending.items c.insert_all.new.set.keys c.in_ok-made.made.waiting.keys) (sym (left c))
-    (kept_goes_on c.args.self.now (lists_of c.args.block.now) (shown c.in_ok-made.made.own) c.in_ok-made.made.vertices.items (map placed c.in_ok-made.made.stepped.items) c.in_ok-made.made.pending.items
-    c.insert_all.new.set.keys c.in_ok-made.made.waiting.keys c.in_ok-made.ensures c.self.inside.pending.items c.reserve.new.self.keys c.self.inside.waiting.keys kept
+    (kept_goes_on c.args.self.now (lists_of c.args.block.now) (shown c.in_ok-made.made.own) c.in_ok-made.made.vertices.items
+    (map placed c.in_ok-made.made.stepped.items) c.in_ok-made.made.pending.items
+    c.insert_all.new.set.keys c.in_ok-made.made.waiting.keys c.in_ok-made.ensures c.self.inside.pending.items c.reserve.new.self.keys
+    c.self.inside.waiting.keys kept
     (λ t. inserted t ∙ ap (λ (xs : List Tx). is_among c.reserve.new.self.keys t || holds t xs) c.deref.ensures.value))
 
 pub returns-clause-ok : goal.returns-clause-ok

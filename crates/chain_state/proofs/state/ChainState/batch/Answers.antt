@@ -17,9 +17,11 @@ returns-then-left-batches c =
     let is : shown (get_or items i c.standing-item.result) ≡ Closed batches = ap shown (sym c.standing-item.is ∙ c.in-Closed.is) in
     let same : c.as_slice-batches.result.now ≡ batches = c.as_slice-batches.ensures ∙ c.deref.ensures in
     let here = batch_here items i left c.standing-item.result batches c.loop-standing-test.true is (omega (arith, c.if-left-batches.true, ap length same)) in
-    let all : closed_batches (map shown items) ≡ finals c.args.self.now = ap (λ (xs : List Standing). closed_batches (map shown xs)) c.deref-standing-items.ensures.value ∙ ap finals c.self.view_is in
+    let all : closed_batches (map shown items) ≡ finals c.args.self.now =
+    ap (λ (xs : List Standing). closed_batches (map shown xs)) c.deref-standing-items.ensures.value ∙ ap finals c.self.view_is in
     let read : slice_get c.as_slice-batches.result.now left ≡ Some c.index-batches-left.result =
-    slice_get_read c.as_slice-batches.result.now (length c.as_slice-batches.result.now) left c.index-batches-left.result refl c.if-left-batches.true c.index-batches-left.is in
+    slice_get_read c.as_slice-batches.result.now
+    (length c.as_slice-batches.result.now) left c.index-batches-left.result refl c.if-left-batches.true c.index-batches-left.is in
     sym read
     ∙ ap (λ (bs : List (List Tx)). slice_get bs left) same
     ∙ sym here

@@ -16,5 +16,8 @@ returns c =
     omega (arith, c.len.ensures, ap (λ (v : Standings). length v.stages) c.self.view_is, length-map c.self.inside.proposals.items shown) in
     are_made c.args.self.now (lists_of c.args.block.now) c.in_ok-graph.graph _ _ _ _ _
     c.in_ok-graph.ensures c.as_slice.ensures.graph c.in_ok-own.ensures (c.in_ok-vertices.ensures.items ∙ c.as_slice.ensures.value) c.in_ok-stepped.ensures
-    (c.in_ok-pending.ensures ∙ ap₂ (λ (steps : List Stepped) (place : ℕ). still_pending (map placed steps ++ (place, shown c.in_ok-own.own) ∷ [])) c.deref.ensures.value count)
-    (λ t. c.in_ok-waiting.ensures t ∙ ap (λ (steps : List Stepped). list_any (λ step. stage_waits t step.1) (map placed steps) || stage_waits t (shown c.in_ok-own.own)) c.deref-2.ensures.value)
+    (c.in_ok-pending.ensures
+    ∙ ap₂ (λ (steps : List Stepped) (place : ℕ). still_pending (map placed steps ++ (place, shown c.in_ok-own.own) ∷ [])) c.deref.ensures.value count)
+    (λ t. c.in_ok-waiting.ensures t
+    ∙ ap (λ (steps : List Stepped). list_any (λ step. stage_waits t step.1) (map placed steps) || stage_waits t (shown c.in_ok-own.own))
+    c.deref-2.ensures.value)

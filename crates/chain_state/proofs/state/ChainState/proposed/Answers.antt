@@ -14,5 +14,7 @@ propose-requires c = subst AreFresh (sym (c.deref.ensures.value ∙ c.in_ok-fres
 pub returns : goal.returns
 returns c =
     let block = c.args.block.now in
-    IfOk-weaker c.propose.result (λ graph. graph ≡ proposal_of c.self.inside.setting c.deref.result.now) (λ graph. graph ≡ own_graph c.args.self.now (lists_of block))
-    (λ graph same. same ∙ ap₂ proposal_of (ap (λ (v : Standings). v.setting) c.self.view_is) (c.deref.ensures.value ∙ c.in_ok-fresh.ensures)) c.propose.ensures.proposal
+    IfOk-weaker c.propose.result (λ graph. graph ≡ proposal_of c.self.inside.setting c.deref.result.now)
+    (λ graph. graph ≡ own_graph c.args.self.now (lists_of block))
+    (λ graph same. same ∙ ap₂ proposal_of (ap (λ (v : Standings). v.setting) c.self.view_is) (c.deref.ensures.value ∙ c.in_ok-fresh.ensures))
+    c.propose.ensures.proposal

@@ -11,5 +11,7 @@ pub returns : goal.returns
 returns c =
     let state = c.args.self.now in
     IfOk-weaker c.stepped_by.result
-    (λ steps. map placed steps.items ≡ steps_from (next_stage state.setting c.in_ok-late.late) 0 state.stages) (λ steps. map placed steps.items ≡ steps_of state (lists_of c.args.block.now))
-    (λ steps same. same ∙ ap (λ (late : List (List Tx)). steps_from (next_stage state.setting late) 0 state.stages) (c.in_ok-late.ensures ∙ c.in_ok-late_lists.ensures)) c.stepped_by.ensures
+    (λ steps. map placed steps.items ≡ steps_from (next_stage state.setting c.in_ok-late.late) 0 state.stages)
+    (λ steps. map placed steps.items ≡ steps_of state (lists_of c.args.block.now))
+    (λ steps same. same ∙ ap (λ (late : List (List Tx)). steps_from (next_stage state.setting late) 0 state.stages)
+    (c.in_ok-late.ensures ∙ c.in_ok-late_lists.ensures)) c.stepped_by.ensures

@@ -24,11 +24,16 @@ loop-place-preserved c =
     let places : List ℕ = c.deref-place-items.result.now in
     let i : ℕ = c.loop-place.place-index in
     let place : ℕ = get_or places i 0 in
-    let below : place < length stages = place_within stages places i (c.deref-place-items.ensures.value ∙ c.self.invariant.pending_are) c.loop-place-test.true in
+    let below : place < length stages =
+    place_within stages places i (c.deref-place-items.ensures.value ∙ c.self.invariant.pending_are) c.loop-place-test.true in
     let read : get_or stages place (Closed []) ≡ shown c.index.result.now =
-    get_or-map shown c.self.inside.proposals.items place c.index.result.now (Closed []) (omega (arith, below, length-map c.self.inside.proposals.items shown)) ∙ ap shown (sym c.index.ensures) in
+    get_or-map shown c.self.inside.proposals.items place c.index.result.now
+    (Closed []) (omega (arith, below, length-map c.self.inside.proposals.items shown))
+    ∙ ap shown (sym c.index.ensures) in
     let stepped : shown c.in_ok-standing.standing ≡ next_stage c.args.self.now.setting c.args.late.now (get_or stages place (Closed [])) =
-    c.in_ok-standing.ensures ∙ ap₂ (λ (s : Parameters) (stage : Stage). next_stage s c.args.late.now stage) (ap (λ (v : Standings). v.setting) c.self.view_is) (sym read) in
+    c.in_ok-standing.ensures
+    ∙ ap₂ (λ (s : Parameters) (stage : Stage). next_stage s c.args.late.now stage)
+    (ap (λ (v : Standings). v.setting) c.self.view_is) (sym read) in
     ap (map placed) c.in_ok-push.ensures.items ∙ map-append placed c.loop-place.stepped.items (_ ∷ [])
     ∙ ap₂ (λ (steps : List (ℕ × Stage)) (stage : Stage). steps ++ (place, stage) ∷ []) c.loop-place.invariant stepped
     ∙ sym (map_more (λ (p : ℕ). (p, next_stage c.args.self.now.setting c.args.late.now (get_or stages p (Closed [])))) places i 0 c.loop-place-test.true)
@@ -39,6 +44,7 @@ returns c =
     let places : List ℕ = c.deref-place-items.result.now in
     let step : ℕ → ℕ × Stage = λ p. (p, next_stage c.args.self.now.setting c.args.late.now (get_or stages p (Closed []))) in
     c.loop-place.invariant
-    ∙ ap (map step) (take_all c.loop-place.place-index places (omega (arith, c.loop-place-test.false)) ∙ c.deref-place-items.ensures.value ∙ c.self.invariant.pending_are)
+    ∙ ap (map step) (take_all c.loop-place.place-index places (omega (arith, c.loop-place-test.false)) ∙ c.deref-place-items.ensures.value
+    ∙ c.self.invariant.pending_are)
     ∙ steps_read c.args.self.now.setting c.args.late.now (Closed []) [] stages 0 refl
     ∙ ap (λ (v : Standings). steps_from (next_stage c.args.self.now.setting c.args.late.now) 0 v.stages) c.self.view_is

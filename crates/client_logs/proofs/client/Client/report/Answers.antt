@@ -19,7 +19,9 @@ returns-clause-of c =
     let below : c.args.k < length c.args.self.now.passes.items = omega (arith, n, p) in
     let d : Known Tx = the_one c.args.self.now.passes.items c.args.k below in
     let e = c.report_at.ensures in
-    let hears : AllZip Hears c.args.self.now.passes.items c.report_at.new.passes.items = subst (AllZip Hears c.args.self.now.passes.items) (sym (e.set d)) (one_hears c.args.self.now.passes.items c.args.k d (get_or c.report_at.new.passes.items c.args.k d) below (e.looked d) (e.arrivals d)) in
+    let hears : AllZip Hears c.args.self.now.passes.items c.report_at.new.passes.items =
+    subst (AllZip Hears c.args.self.now.passes.items) (sym (e.set d))
+    (one_hears c.args.self.now.passes.items c.args.k d (get_or c.report_at.new.passes.items c.args.k d) below (e.looked d) (e.arrivals d)) in
     still_of c.args.logs.now c.args.self.now _ c.requires.of refl refl refl refl e.own hears
 
 pub returns-clause-seen : goal.returns-clause-seen
@@ -30,4 +32,5 @@ returns-clause-seen c =
     let d : Known Tx = the_one c.args.self.now.passes.items c.args.k below in
     let e = c.report_at.ensures in
     seen_hears c.args.self.now.passes.items c.report_at.new.passes.items
-    (subst (AllZip Hears c.args.self.now.passes.items) (sym (e.set d)) (one_hears c.args.self.now.passes.items c.args.k d (get_or c.report_at.new.passes.items c.args.k d) below (e.looked d) (e.arrivals d)))
+    (subst (AllZip Hears c.args.self.now.passes.items) (sym (e.set d))
+    (one_hears c.args.self.now.passes.items c.args.k d (get_or c.report_at.new.passes.items c.args.k d) below (e.looked d) (e.arrivals d)))

@@ -10,5 +10,6 @@ returns-clause-stack c =
     let old = c.args.self.now in
     let long = rw c.deref_mut.ensures.value at c.join.auto.places in
     let is = rw c.deref_mut.ensures.value at c.join.ensures in
-    subst (λ (places : List Place). IsStack places (c.args.level + 1) old.path.items) (sym (with_items_is old.places c.join.new.places (long ∙ sym old.places.ok.0)))
+    subst (λ (places : List Place). IsStack places (c.args.level + 1) old.path.items)
+    (sym (with_items_is old.places c.join.new.places (long ∙ sym old.places.ok.0)))
     (joined_stack old.places.items c.join.new.places old.depth c.args.level old.path.items is c.requires.stack)

@@ -13,7 +13,8 @@ invariant_of-self c =
     let held = c.self.inside.held.entries in
     let found : lookup (tx_eq tx) held ≡ Some c.in-Some.slot = sym (c.copied.ensures ∙ c.get.ensures.value) ∙ c.in-Some.is in
     let put : c.put.new.held.entries ≡ map (changed_at tx (with_stamp c.args.peer c.args.receipt.stamp)) held =
-    changed_entries tx (with_stamp c.args.peer c.args.receipt.stamp) held c.put.new.held.entries c.in-Some.slot c.with_stamp.result found c.with_stamp.ensures c.put.ensures.entries c.put.ensures.unique in
+    changed_entries tx (with_stamp c.args.peer c.args.receipt.stamp) held c.put.new.held.entries c.in-Some.slot c.with_stamp.result found
+    c.with_stamp.ensures c.put.ensures.entries c.put.ensures.unique in
     let same = changed_source tx (with_stamp c.args.peer c.args.receipt.stamp) (stamp_source c.args.peer c.args.receipt.stamp) in
     rw put (
       charges_changed (changed_at tx (with_stamp c.args.peer c.args.receipt.stamp)) same c.self.inside.charges held c.self.invariant.0,
@@ -32,5 +33,6 @@ returns-in-Some c =
     let held = c.self.inside.held.entries in
     let found : lookup (tx_eq tx) held ≡ Some c.in-Some.slot = sym (c.copied.ensures ∙ c.get.ensures.value) ∙ c.in-Some.is in
     let put : c.put.new.held.entries ≡ map (changed_at tx (with_stamp c.args.peer c.args.receipt.stamp)) held =
-    changed_entries tx (with_stamp c.args.peer c.args.receipt.stamp) held c.put.new.held.entries c.in-Some.slot c.with_stamp.result found c.with_stamp.ensures c.put.ensures.entries c.put.ensures.unique in
+    changed_entries tx (with_stamp c.args.peer c.args.receipt.stamp) held c.put.new.held.entries c.in-Some.slot c.with_stamp.result found
+    c.with_stamp.ensures c.put.ensures.entries c.put.ensures.unique in
     rw (put, ← c.self.view_is) refl

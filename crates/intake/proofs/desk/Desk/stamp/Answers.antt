@@ -23,7 +23,8 @@ invariant_of-self-2 c =
     let charge = c.charged-charge.ensures.value ∙ ap (λ (d : Desk). charged c.args.source d) (sym c.self.view_is) in
     let room = subst (λ (d : Desk). c.args.source ≤ d.n → charged c.args.source d < quota c.args.source d) (sym c.self.view_is) c.requires.room in
     rw (c.in_ok-insert.ensures.entries, insert_entry-new tx_eq c.self.inside.held tx c.own_slot.result none, c.own_slot.ensures) (
-      charges_added c.self.inside.charges c.self.inside.held.entries (tx, own_slot c.self.inside.me stamp c.args.arrived c.args.source) c.charged-charge.result place charge c.self.invariant.0,
+      charges_added c.self.inside.charges c.self.inside.held.entries
+          (tx, own_slot c.self.inside.me stamp c.args.arrived c.args.source) c.charged-charge.result place charge c.self.invariant.0,
       receipt_added stamp c.args.arrived c.args.source tx c.self.invariant.1 early known room,
     )
 
@@ -33,4 +34,11 @@ returns-clause-ok c =
     let absent : is_held tx c.args.self.now ≡ false = new_is_absent tx c.args.self.now c.requires.fresh in
     let none : lookup (tx_eq tx) c.self.inside.held.entries ≡ None =
     none_from (lookup (tx_eq tx) c.self.inside.held.entries) (ap (λ (d : Desk). is_held tx d) c.self.view_is ∙ absent) in
-    rw (c.in_ok-insert.ensures.entries, insert_entry-new tx_eq c.self.inside.held tx c.own_slot.result none, c.own_slot.ensures, c.next_stamp-stamp.ensures, ← c.self.view_is) refl
+    rw (
+      c.in_ok-insert.ensures.entries,
+      insert_entry-new tx_eq c.self.inside.held tx c.own_slot.result none,
+      c.own_slot.ensures,
+      c.next_stamp-stamp.ensures,
+      ← c.self.view_is,
+    )
+    refl

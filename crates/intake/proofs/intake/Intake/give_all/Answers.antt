@@ -18,10 +18,12 @@ loop-at-preserved c =
       | then-is_waiting w ↦
           let fits : kept < length items = omega (arith, c.loop-at.invariant.few, c.loop-at.invariant.same_length) in
           let more = take_more_set items kept tx fits in
-          let waits : is_waiting tx (given_all (take kept items) old) ≡ true = subst (λ (d : Desk). is_waiting tx d ≡ true) c.loop-at.invariant.desk (sym w.if-is_waiting.ensures) in
+          let waits : is_waiting tx (given_all (take kept items) old) ≡ true =
+          subst (λ (d : Desk). is_waiting tx d ≡ true) c.loop-at.invariant.desk (sym w.if-is_waiting.ensures) in
           rw (w.given-is, w.kept-is, w.self-inside-is) (record {
             waiting = subst (λ (l : List Tx). AreWaiting l old) (sym more) (waiting_more (take kept items) tx old c.loop-at.invariant.waiting waits);
-            desk = w.give.ensures.after ∙ ap (given tx) c.loop-at.invariant.desk ∙ sym (given_more (take kept items) tx old) ∙ ap (λ (l : List Tx). given_all l old) (sym more);
+            desk = w.give.ensures.after ∙ ap (given tx) c.loop-at.invariant.desk ∙ sym (given_more (take kept items) tx old)
+                ∙ ap (λ (l : List Tx). given_all l old) (sym more);
             few = omega (arith, c.loop-at.invariant.few);
             same_length = length-set items kept tx ∙ c.loop-at.invariant.same_length;
           })

@@ -4,7 +4,8 @@ use Rattle.intake.proofs.Named.{named_more, named_none}
 use Rattle.intake.proofs.intake.Intake.name_all.Goals as goal
 
 pub loop-tx-init : goal.loop-tx-init
-loop-tx-init c = (named_none _, λ lists all. rw (c.into_iter-tx-iterator.ensures.into_iter_gives ∙ c.iter-tx-items.ensures.rest) (named_at_first _ lists _ _ all, all.low))
+loop-tx-init c =
+    (named_none _, λ lists all. rw (c.into_iter-tx-iterator.ensures.into_iter_gives ∙ c.iter-tx-items.ensures.rest) (named_at_first _ lists _ _ all, all.low))
 
 pub loop-tx-preserved-in-Continue-1 : goal.loop-tx-preserved-in-Continue-1
 loop-tx-preserved-in-Continue-1 c = (
@@ -19,8 +20,10 @@ pub loop-tx-preserved : goal.loop-tx-preserved
 loop-tx-preserved c = (
   c.loop-tx.invariant.0,
   λ lists all.
-      let held = c.loop-tx.invariant.1 lists all in
-      (named_without _ lists _ _ _ _ _ c.in-Some.ensures.steps held.0 (omega (arith, c.if-f-count.false)), (low_front lists _ _ _ c.in-Some.ensures.steps held.1).1),
+      let held = c.loop-tx.invariant.1 lists all in (
+        named_without _ lists _ _ _ _ _ c.in-Some.ensures.steps held.0 (omega (arith, c.if-f-count.false)),
+        (low_front lists _ _ _ c.in-Some.ensures.steps held.1).1,
+      ),
 )
 
 pub returns-in_err-name-clause-named : goal.returns-in_err-name-clause-named

@@ -40,7 +40,8 @@ pub returns-clause-parts : goal.returns-clause-parts
 returns-clause-parts c =
     let key = c.args.self.now in
     let all : c.loop-index.index ≡ 67 = omega arith in
-    let whole : take c.loop-index.index c.loop-index.parts ≡ c.loop-index.parts = take_all c.loop-index.index c.loop-index.parts (omega (arith, c.loop-index.invariant.0)) in
+    let whole : take c.loop-index.index c.loop-index.parts ≡ c.loop-index.parts =
+    take_all c.loop-index.index c.loop-index.parts (omega (arith, c.loop-index.invariant.0)) in
     sym whole ∙ c.loop-index.invariant.1
     ∙ ap (λ (n : ℕ). parts_of n (signed_part key.id key.leaf key.seed c.digits-digits.result)) all
     ∙ ap (λ (d : List ℕ). signed_parts key.id key.leaf key.seed d)

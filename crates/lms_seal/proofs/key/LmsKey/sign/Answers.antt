@@ -12,7 +12,8 @@ pub index-requires : goal.index-requires
 index-requires c =
     let key = c.self.inside in
     let below : c.args.leaf < 2 ^ key.levels = subst (λ (k : Key). c.args.leaf < 2 ^ k.levels) (sym c.self.view_is) c.requires in
-    let long : length key.keys.items ≡ 2 ^ key.levels = ap length key.are_keys ∙ length-map-range_with_len (λ (q : ℕ). record { id = key.id; leaf = q; seed = key.seed }) 0 (2 ^ key.levels) in
+    let long : length key.keys.items ≡ 2 ^ key.levels = ap length key.are_keys
+    ∙ length-map-range_with_len (λ (q : ℕ). record { id = key.id; leaf = q; seed = key.seed }) 0 (2 ^ key.levels) in
     omega (arith, long, below)
 
 pub returns : goal.returns

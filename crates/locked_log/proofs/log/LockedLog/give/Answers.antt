@@ -4,7 +4,8 @@ use Rattle.locked_log.proofs.Keeps.{stores, releases}
 use Rattle.locked_log.proofs.log.LockedLog.give.Goals as goal
 
 pub compare_exchange_with-requires : goal.compare_exchange_with-requires
-compare_exchange_with-requires g c = (search rules, search rules, stores _ _ _ _ _ _ _ _ _ c.requires.held.1 c.requires.grows.0 c.requires.grows.1 c.count-after.ensures)
+compare_exchange_with-requires g c =
+    (search rules, search rules, stores _ _ _ _ _ _ _ _ _ c.requires.held.1 c.requires.grows.0 c.requires.grows.1 c.count-after.ensures)
 
 pub store-requires : goal.store-requires
 store-requires g c =

@@ -8,7 +8,8 @@ compare_exchange-requires g c =
     let same = c.loop.invariant.2 in (
       search rules,
       search rules,
-      takes_lock _ _ _ _ _ _ (ap (λ m. m.1) same ∙ c.requires.idle.0) (ap (λ m. m.0.holds) same ∙ c.requires.idle.1.0) (subst (λ m. 0 < m.0.parts) (sym same) c.requires.idle.1.1),
+      takes_lock _ _ _ _ _ _ (ap (λ m. m.1) same ∙ c.requires.idle.0) (ap (λ m. m.0.holds) same ∙ c.requires.idle.1.0)
+          (subst (λ m. 0 < m.0.parts) (sym same) c.requires.idle.1.1),
     )
 
 pub exchange-requires : goal.exchange-requires

@@ -30,7 +30,8 @@ invariant_of-pass-2 g c =
     let inside : x.from < vec_len it.counts = subst (λ m. x.from < m) (ap (λ v. v.made) kept.takes) reported.1 in
     let there : x.from < length it.counts.items = subst (λ m. x.from < m) it.counts.ok.0 inside in
     let now : c.index_mut.result.now ≡ slice_index it.counts.items x.from = c.index_mut.ensures.value ∙ get_or_default it.counts.items x.from _ 0 there in
-    let all = counts_more it.counts.items x it.pass.me.view.client.got c.index_mut.result.now (λ k lt. kept.counted k (subst (λ m. k < m) (sym it.counts.ok.0) lt)) there now in record {
+    let all = counts_more it.counts.items x it.pass.me.view.client.got c.index_mut.result.now
+    (λ k lt. kept.counted k (subst (λ m. k < m) (sym it.counts.ok.0) lt)) there now in record {
       hand = search rules;
       spare = search rules;
       takes = search rules;

@@ -11,4 +11,5 @@ index-requires c =
     let to = rw (← c.self.view_is) at c.requires.to in
     let rows = length-map inside.edges.items (λ (row : Vec Edge Global). row.items) in
     let within : c.args.u < length inside.edges.items = omega (arith, from, rows, c.self.invariant.rows) in
-    omega (arith, to, row_length inside.edges.items (length inside.vertices) c.args.u c.index-row.result.now c.self.invariant.columns within c.index-row.ensures)
+    omega
+    (arith, to, row_length inside.edges.items (length inside.vertices) c.args.u c.index-row.result.now c.self.invariant.columns within c.index-row.ensures)

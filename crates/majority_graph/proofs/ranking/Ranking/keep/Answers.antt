@@ -22,7 +22,8 @@ invariant_of-self c =
     let is = kept (goal.at.invariant_of-self c).After-truncate in
     let lists = c.self.inside.lists in (
       omega (arith, ap length is, length-wanted_of-le c.args.wanted.now ranked, c.self.invariant.0),
-      subst (All (λ (r : Ranked). length r.places.items ≡ lists)) (sym is) (All-wanted_of (λ (r : Ranked). length r.places.items ≡ lists) c.args.wanted.now ranked c.self.invariant.1),
+      subst (All (λ (r : Ranked). length r.places.items ≡ lists)) (sym is)
+          (All-wanted_of (λ (r : Ranked). length r.places.items ≡ lists) c.args.wanted.now ranked c.self.invariant.1),
     )
 
 pub returns : goal.returns

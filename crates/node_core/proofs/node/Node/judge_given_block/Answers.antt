@@ -8,5 +8,8 @@ returns-in-Done g c =
     let reason = c.in_ok-reason.ensures in
     let view = rw (← c.self.view_is) at c.requires.view in
     let parent = rw (← c.self.view_is) at c.requires.parent in
-    let storable = can_be_stored c.self.inside.state _ c.args.view.now _ block.value view c.requires.earlier parent block.within c.name_of-digest.ensures (reason.alone c.in-Done.is) in
-    rw (← c.self.view_is) (give_accepted (g.S.Sealer.gives c.self.inside.sealer) _ (g.C.Checker.meaning c.args.checker.now) _ c.args.view.now _ block.value (sym reason.value ∙ c.in-Done.is) storable (reason.fresh c.in-Done.is))
+    let storable = can_be_stored c.self.inside.state _ c.args.view.now _ block.value view c.requires.earlier parent block.within
+    c.name_of-digest.ensures (reason.alone c.in-Done.is) in
+    rw (← c.self.view_is)
+    (give_accepted (g.S.Sealer.gives c.self.inside.sealer) _ (g.C.Checker.meaning c.args.checker.now) _ c.args.view.now _ block.value
+    (sym reason.value ∙ c.in-Done.is) storable (reason.fresh c.in-Done.is))

@@ -24,9 +24,11 @@ loop-place-preserved c =
       | then-is_above+else-left-eq0 w ↦
           let here = passes p store place (sym w.if-is_above.ensures) in
           let some : 0 < left = omega (arith, w.if-left-eq0.false) in
-          let next : slice_get (filter p (drop place store)) left ≡ slice_get (filter p (drop (place + 1) store)) (left - 1) = ap (λ (bs : List Block). slice_get bs left) here.2 ∙ slice_next here.0 (filter p (drop (place + 1) store)) left some in
+          let next : slice_get (filter p (drop place store)) left ≡ slice_get (filter p (drop (place + 1) store)) (left - 1) =
+          ap (λ (bs : List Block). slice_get bs left) here.2 ∙ slice_next here.0 (filter p (drop (place + 1) store)) left some in
           rw w.left-is (sym next ∙ c.loop-place.invariant)
       | else-is_above w ↦
-          let same : filter p (drop place store) ≡ filter p (drop (place + 1) store) = fails p store place (rw (← c.len-place-end.ensures) c.loop-place-test.true) (sym w.if-is_above.ensures) in
+          let same : filter p (drop place store) ≡ filter p (drop (place + 1) store) =
+          fails p store place (rw (← c.len-place-end.ensures) c.loop-place-test.true) (sym w.if-is_above.ensures) in
           rw w.left-is (ap (λ (bs : List Block). slice_get bs left) (sym same) ∙ c.loop-place.invariant)
     ]

@@ -14,7 +14,8 @@ returns-in_err-turn_at-in-Some-clause-kept g c =
     let plan = c.args.plan.now in
     let seats = ap (λ (n : Net _). map (replica_of means) n.seats) (c.self-in-Some.view_is ∙ c.in-Some.ensures.some.1) in
     let same = stays_same m means fits plan c.args.keepers.now c.args.self.now _ seats in
-    let stop = stop_after m means fits plan c.args.keepers.now c.args.keepers.now c.turn_at.new.keepers c.args.self.now _ c.in_err-turn_at-in-Some.field-0.0 same
+    let stop = stop_after m means fits plan c.args.keepers.now c.args.keepers.now c.turn_at.new.keepers c.args.self.now
+    _ c.in_err-turn_at-in-Some.field-0.0 same
     c.in_err-turn_at-in-Some.ensures.kept in
     search rules
 

@@ -20,5 +20,6 @@ returns-clause-kept g c =
     let means = meaning g.S.Sealer.replica g.S.Sealer.gives in
     let fits = g.C.Checker.meaning c.args.checker.now in
     let plan = c.args.plan.now in
-    goes_after m means fits plan c.args.keepers.now c.args.keepers.now c.turn_at.new.keepers c.args.self.now c.take_arrived.new.self c.turn_at.new.self c.turn_at.result
+    goes_after m means fits plan c.args.keepers.now c.args.keepers.now c.turn_at.new.keepers c.args.self.now c.take_arrived.new.self
+    c.turn_at.new.self c.turn_at.result
     (taken_goes m means fits plan c.args.keepers.now c.args.self.now c.take_arrived.new.self c.args.at c.in_ok-list.ensures.taken) c.turn_at.ensures.kept

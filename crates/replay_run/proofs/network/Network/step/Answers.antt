@@ -13,6 +13,9 @@ returns-clause-kept g c =
     let fits = g.C.Checker.meaning c.args.checker.now in
     let plan = c.args.plan.now in
     let keepers = c.give_arrivals.new.keepers in
-    let same = stays_same m means fits plan keepers c.give_arrivals.new.self c.all_hold_due.new.self (ap (λ (n : Net _). map (replica_of means) n.seats) c.in_ok-all_hold_due.ensures.same) in
-    let given = stays_both m means fits plan c.args.keepers.now keepers keepers c.args.self.now c.give_arrivals.new.self c.all_hold_due.new.self c.in_ok-give_arrivals.ensures.kept same in
-    goes_after m means fits plan c.args.keepers.now keepers c.advance.new.keepers c.args.self.now c.all_hold_due.new.self c.advance.new.self c.advance.result given c.advance.ensures.kept
+    let same = stays_same m means fits plan keepers c.give_arrivals.new.self c.all_hold_due.new.self
+    (ap (λ (n : Net _). map (replica_of means) n.seats) c.in_ok-all_hold_due.ensures.same) in
+    let given = stays_both m means fits plan c.args.keepers.now keepers keepers c.args.self.now c.give_arrivals.new.self
+    c.all_hold_due.new.self c.in_ok-give_arrivals.ensures.kept same in
+    goes_after m means fits plan c.args.keepers.now keepers c.advance.new.keepers c.args.self.now c.all_hold_due.new.self c.advance.new.self
+    c.advance.result given c.advance.ensures.kept

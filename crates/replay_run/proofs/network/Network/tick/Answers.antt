@@ -13,7 +13,8 @@ returns-in_err-tick_all-clause-kept g c =
     let fits = g.C.Checker.meaning c.args.checker.now in
     let plan = c.args.plan.now in
     let same = stays_same m means fits plan c.args.keepers.now c.args.self.now _ (ap (λ (n : Net _). map (replica_of means) n.seats) c.self.view_is) in
-    let stop = stop_after m means fits plan c.args.keepers.now c.args.keepers.now c.tick_all.new.keepers c.args.self.now _ c.in_err-tick_all.field-0.0 same c.in_err-tick_all.ensures.kept in
+    let stop = stop_after m means fits plan c.args.keepers.now c.args.keepers.now c.tick_all.new.keepers c.args.self.now
+    _ c.in_err-tick_all.field-0.0 same c.in_err-tick_all.ensures.kept in
     search rules
 
 pub returns-clause-kept : goal.returns-clause-kept
@@ -24,4 +25,5 @@ returns-clause-kept g c =
     let fits = g.C.Checker.meaning c.args.checker.now in
     let plan = c.args.plan.now in
     stays_both m means fits plan c.args.keepers.now c.args.keepers.now c.tick_all.new.keepers c.args.self.now _ c.tick_all.new.self
-    (stays_same m means fits plan c.args.keepers.now c.args.self.now _ (ap (λ (n : Net _). map (replica_of means) n.seats) c.self.view_is)) c.in_ok-tick_all.ensures.kept
+    (stays_same m means fits plan c.args.keepers.now c.args.self.now _ (ap (λ (n : Net _). map (replica_of means) n.seats) c.self.view_is))
+    c.in_ok-tick_all.ensures.kept

@@ -12,6 +12,7 @@ invariant-loop-at g l =
     let means = meaning g.S.Sealer.replica g.S.Sealer.gives in
     let k = g.K.Keeper in
     record {
-      world : ticked_over fits l.plan l.floor (world_of means l.self) (range_with_len l.at (l.n - l.at)) ≡ ticked_over fits l.plan l.floor (world_of means l.fn.self) (range_with_len 0 l.n);
+      world : ticked_over fits l.plan l.floor (world_of means l.self) (range_with_len l.at (l.n - l.at))
+          ≡ ticked_over fits l.plan l.floor (world_of means l.fn.self) (range_with_len 0 l.n);
       kept : StaysKept (meant k) means fits l.plan l.fn.keepers l.fn.self l.keepers l.self;
     }

@@ -15,7 +15,8 @@ returns-then-is_some-clause-collided c = λ before knows.
     let is : c.entry-item.result ≡ get_or entries at c.entry-item.result = rw c.as_slice-entry-items.ensures at c.entry-item.is in
     let brings : delivered_block c.entry-item.result ≡ Some c.in-Some.block = sym c.delivered_block.ensures.value ∙ c.in-Some.is in
     let next = received_some receiver at entries c.entry-item.result c.in-Some.block within is brings in
-    stands_stop before (received_in (receiver, c.args.journal.now)) (received_from receiver at (drop at entries)) (received_from receiver (at + 1) (drop (at + 1) entries)) (r ∷ [])
+    stands_stop before (received_in (receiver, c.args.journal.now)) (received_from receiver at (drop at entries))
+    (received_from receiver (at + 1) (drop (at + 1) entries)) (r ∷ [])
     c.loop-at.self.spellings c.loop-at.self.first_places (c.loop-at.invariant before knows) c.in_ok-collided.collided next
     (λ xs known. c.in_ok-collided.ensures.collided xs known ∙ sym (one_block xs r)) (sym c.if-is_some.ensures)
 
@@ -32,15 +33,18 @@ loop-at-preserved c = λ before knows.
           let brings : delivered_block c.entry-item.result ≡ Some w.in-Some.block = sym c.delivered_block.ensures.value ∙ w.in-Some.is in
           let next = received_some receiver at entries c.entry-item.result w.in-Some.block within is brings in
           rw w.self-is
-          (stands_go before (received_in (receiver, c.args.journal.now)) (received_from receiver at (drop at entries)) (received_from receiver (at + 1) (drop (at + 1) entries)) (r ∷ [])
+          (stands_go before (received_in (receiver, c.args.journal.now)) (received_from receiver at (drop at entries))
+          (received_from receiver (at + 1) (drop (at + 1) entries)) (r ∷ [])
           c.loop-at.self.spellings c.loop-at.self.first_places (c.loop-at.invariant before knows) w.in_ok-collided.collided next
-          (λ xs known. w.in_ok-collided.ensures.collided xs known ∙ sym (one_block xs r)) w.see.new.self.spellings w.see.new.self.first_places (sym w.if-is_some.ensures)
+          (λ xs known. w.in_ok-collided.ensures.collided xs known ∙ sym (one_block xs r)) w.see.new.self.spellings w.see.new.self.first_places
+          (sym w.if-is_some.ensures)
           (λ xs known. w.in_ok-collided.ensures.knows xs known))
       | in_default w ↦
           let brings : delivered_block c.entry-item.result ≡ None = sym c.delivered_block.ensures.value ∙ w.in_default.is in
           let next = received_none receiver at entries c.entry-item.result within is brings in
           rw w.self-is
-          (stands_skip before (received_in (receiver, c.args.journal.now)) (received_from receiver at (drop at entries)) (received_from receiver (at + 1) (drop (at + 1) entries)) []
+          (stands_skip before (received_in (receiver, c.args.journal.now)) (received_from receiver at (drop at entries))
+          (received_from receiver (at + 1) (drop (at + 1) entries)) []
           c.loop-at.self.spellings c.loop-at.self.first_places (c.loop-at.invariant before knows) next)
     ]
 

@@ -21,10 +21,12 @@ loop-k-preserved g c =
       | in-Some+else-is_some w ↦
           forged_go check run c.args.place.receiver c.args.place.entry order_part c.args.block.now.orders c.loop-k.k (c.args.first + c.loop-k.k)
           (forged_from check run c.args.place.receiver c.args.place.entry c.args.first _) c.loop-k.invariant
-          (c.args.first + (c.loop-k.k + 1)) w.in-Some.order w.in_order-forged.result (sym c.order.ensures ∙ w.in-Some.is) w.in_order-forged.ensures (sym w.if-is_some.ensures) (omega arith)
+          (c.args.first + (c.loop-k.k + 1)) w.in-Some.order w.in_order-forged.result
+          (sym c.order.ensures ∙ w.in-Some.is) w.in_order-forged.ensures (sym w.if-is_some.ensures) (omega arith)
       | in_default w ↦
           forged_skip check run c.args.place.receiver c.args.place.entry order_part c.args.block.now.orders c.loop-k.k (c.args.first + c.loop-k.k)
-          (forged_from check run c.args.place.receiver c.args.place.entry c.args.first _) c.loop-k.invariant (c.args.first + (c.loop-k.k + 1)) (sym c.order.ensures ∙ w.in_default.is)
+          (forged_from check run c.args.place.receiver c.args.place.entry c.args.first _) c.loop-k.invariant
+          (c.args.first + (c.loop-k.k + 1)) (sym c.order.ensures ∙ w.in_default.is)
     ]
 
 pub returns : goal.returns

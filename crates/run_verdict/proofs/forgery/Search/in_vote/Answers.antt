@@ -21,7 +21,8 @@ returns-in-None g c =
     let own = part vote.replica (vote_spelling vote.replica vote.view vote.block) vote.seal in
     let none = rw (c.replica.ensures, c.statement.ensures, c.seal.ensures) at (sym c.in_part.ensures ∙ c.in_default.is) in
     let carries = sym c.order.ensures ∙ c.in-None.is in
-    sym (forged_others check run c.args.place.receiver c.args.place.entry 0 own (carried_parts c.args.vote.now.order) none ∙ rw carries (forged_none check run c.args.place.receiver c.args.place.entry 1))
+    sym (forged_others check run c.args.place.receiver c.args.place.entry 0 own (carried_parts c.args.vote.now.order) none
+    ∙ rw carries (forged_none check run c.args.place.receiver c.args.place.entry 1))
 
 pub returns-in-Some-order : goal.returns-in-Some-order
 returns-in-Some-order g c =
@@ -31,4 +32,5 @@ returns-in-Some-order g c =
     let own = part vote.replica (vote_spelling vote.replica vote.view vote.block) vote.seal in
     let none = rw (c.replica.ensures, c.statement.ensures, c.seal.ensures) at (sym c.in_part.ensures ∙ c.in_default.is) in
     let carries = sym c.order.ensures ∙ c.in-Some-order.is in
-    c.in_order.ensures ∙ sym (forged_others check run c.args.place.receiver c.args.place.entry 0 own (carried_parts c.args.vote.now.order) none ∙ rw carries (forged_one check run c.args.place.receiver c.args.place.entry 1 (order_part c.in-Some-order.order)))
+    c.in_order.ensures ∙ sym (forged_others check run c.args.place.receiver c.args.place.entry 0 own (carried_parts c.args.vote.now.order) none
+    ∙ rw carries (forged_one check run c.args.place.receiver c.args.place.entry 1 (order_part c.in-Some-order.order)))

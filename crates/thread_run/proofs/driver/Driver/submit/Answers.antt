@@ -23,7 +23,8 @@ returns-in-Err-clause-tried g c list t =
 
 pub returns-in-Ok-clause-goes : goal.returns-in-Ok-clause-goes
 returns-in-Ok-clause-goes g c =
-    goes_submitted c.args.self.now (record c.args.self.now { pass = c.submit.new.pass }) c.args.tx c.submit.result c.submit.ensures.submitted c.submit.ensures.seen (was_none c.args.self.now.fault (search rules))
+    goes_submitted c.args.self.now (record c.args.self.now { pass = c.submit.new.pass }) c.args.tx c.submit.result
+    c.submit.ensures.submitted c.submit.ensures.seen (was_none c.args.self.now.fault (search rules))
 
 pub returns-in-Err-clause-goes : goal.returns-in-Err-clause-goes
 returns-in-Err-clause-goes g c =

@@ -14,7 +14,8 @@ more_hold P [] k x lt is here below i d l at = absurd (omega (arith, lt))
 more_hold P (y ∷ xs) zero x lt is here below zero d l at = subst P (is ∙ same_Some y d at) here
 more_hold P (y ∷ xs) zero x lt is here below (suc i) d l at = absurd (omega (arith, l))
 more_hold P (y ∷ xs) (suc k) x lt is here below zero d l at = below zero d (omega arith) at
-more_hold P (y ∷ xs) (suc k) x lt is here below (suc i) d l at = more_hold P xs k x (omega (arith, lt)) is here (λ j e m it. below (suc j) e (omega (arith, m)) it) i d (omega (arith, l)) at
+more_hold P (y ∷ xs) (suc k) x lt is here below (suc i) d l at =
+    more_hold P xs k x (omega (arith, lt)) is here (λ j e m it. below (suc j) e (omega (arith, m)) it) i d (omega (arith, l)) at
 
 -- where each of them holds all, all do
 all_asked : {S : Type 0} (plan : Plan) (run : Run S) (k : ℕ) → length run.workers.items ≤ k
@@ -41,7 +42,12 @@ returns-then-not-branch g c =
     let worker = c.worker-item.result in
     let lt = subst (λ (l : List (Working g.row.S.Denot)). k < length l) value c.loop-worker-test.true in
     let is = c.worker-item.is ∙ ap (λ (l : List (Working g.row.S.Denot)). get_or l k worker) value in
-    record { at = k; worker = worker; there = slice_get-get_or workers k worker lt ∙ ap Some (sym is); lacks = sym c.in_ok-holds_due.ensures ∙ c.if-not-branch.true }
+    record {
+      at = k;
+      worker = worker;
+      there = slice_get-get_or workers k worker lt ∙ ap Some (sym is);
+      lacks = sym c.in_ok-holds_due.ensures ∙ c.if-not-branch.true;
+    }
 
 pub returns : goal.returns
 returns g c =

@@ -5,4 +5,5 @@ use Rattle.thread_run.specs.Workers.{Working}
 use Rattle.thread_run.proofs.runs.Run.all_hold_due.Given as goal
 
 abbrev pub invariant-loop-worker : goal.invariant-loop-worker
-invariant-loop-worker g l = (at : ℕ) (w : Working g.row.S.Denot) → at < l.worker-index → slice_get l.self.workers.items at ≡ Some w → holds_by l.plan.faulty l.self.due w ≡ true
+invariant-loop-worker g l = (at : ℕ) (w : Working g.row.S.Denot) → at < l.worker-index → slice_get l.self.workers.items at ≡ Some w
+    → holds_by l.plan.faulty l.self.due w ≡ true

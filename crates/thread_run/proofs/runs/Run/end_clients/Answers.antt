@@ -15,7 +15,8 @@ pub returns : goal.returns
 returns g c =
     let self = c.args.self.now in
     let ds = c.end_all.new.clients in
-    let ends : AllZip Completes self.clients.items ds = subst (λ (cs : List ClientWorker). AllZip Completes cs ds) c.as_mut_slice.ensures.value c.end_all.ensures.ends in
+    let ends : AllZip Completes self.clients.items ds =
+    subst (λ (cs : List ClientWorker). AllZip Completes cs ds) c.as_mut_slice.ensures.value c.end_all.ensures.ends in
     let z = zip_length Completes self.clients.items ds ends in
     let ok = self.clients.ok.0 in
     let items : (with_items self.clients ds).items ≡ ds = with_items_is self.clients ds (omega (arith, z, ok)) in

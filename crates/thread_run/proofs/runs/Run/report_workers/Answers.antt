@@ -38,11 +38,13 @@ returns g c =
     let reported = c.report_all.ensures in
     let workers = c.report_all.new.workers in
     let clients = c.report_all.new.clients in
-    let hears : AllZip ReportedWorker mid.workers.items workers = subst (λ (ws : List (Working g.row.S.Denot)). AllZip ReportedWorker ws workers) c.as_mut_slice.ensures.value reported.hears in
+    let hears : AllZip ReportedWorker mid.workers.items workers =
+    subst (λ (ws : List (Working g.row.S.Denot)). AllZip ReportedWorker ws workers) c.as_mut_slice.ensures.value reported.hears in
     let z = zip_length ReportedWorker mid.workers.items workers hears in
     let ok = mid.workers.ok.0 in
     let items : (with_items mid.workers workers).items ≡ workers = with_items_is mid.workers workers (omega (arith, z, ok)) in
-    let heard : AllZip ReportedClient mid.clients.items clients = subst (λ (cs : List ClientWorker). AllZip ReportedClient cs clients) c.as_mut_slice-2.ensures.value reported.clients in
+    let heard : AllZip ReportedClient mid.clients.items clients =
+    subst (λ (cs : List ClientWorker). AllZip ReportedClient cs clients) c.as_mut_slice-2.ensures.value reported.clients in
     let z' = zip_length ReportedClient mid.clients.items clients heard in
     let ok' = mid.clients.ok.0 in
     let items' : (with_items mid.clients clients).items ≡ clients = with_items_is mid.clients clients (omega (arith, z', ok')) in
@@ -53,7 +55,10 @@ returns g c =
     (subst (AllZip ReportedClient mid.clients.items) (sym items') heard)
     reported.drivers
     reported.own
-    (subst (λ (cs : List ClientWorker). ReportedFirst (length c.report_all.new.drivers.items) mid.drivers.items (with_items mid.workers workers).items cs) (sym items')
-    (subst (λ (ws : List (Working g.row.S.Denot)). ReportedFirst (length c.report_all.new.drivers.items) mid.drivers.items ws clients) (sym items) reported.reported))
-    (subst (λ (ws : List (Working g.row.S.Denot)). HeardFirst (length c.report_all.new.drivers.items) ws c.report_all.new.drivers.items) c.as_mut_slice.ensures.value reported.heard)
+    (subst (λ (cs : List ClientWorker). ReportedFirst (length c.report_all.new.drivers.items) mid.drivers.items (with_items mid.workers workers).items cs)
+    (sym items')
+    (subst (λ (ws : List (Working g.row.S.Denot)). ReportedFirst (length c.report_all.new.drivers.items) mid.drivers.items ws clients)
+    (sym items) reported.reported))
+    (subst (λ (ws : List (Working g.row.S.Denot)). HeardFirst (length c.report_all.new.drivers.items) ws c.report_all.new.drivers.items)
+    c.as_mut_slice.ensures.value reported.heard)
     refl

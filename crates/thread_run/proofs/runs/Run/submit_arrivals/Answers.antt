@@ -41,7 +41,8 @@ loop-at-preserved g c =
     let n = i.count in
     let lt : c.loop-at.at < length c.loop-at.self.drivers.items = omega (arith, t, e, first, n) in
     let done = c.in_ok-submit_until.ensures in
-    submits_more c.args.plan.now c.args.turns c.loop-at.at c.args.self.now c.loop-at.self c.index_mut.result.now c.submit_until.new.self c.index.result.now i lt c.index_mut.ensures.value done.goes done.feed done.given _ refl refl
+    submits_more c.args.plan.now c.args.turns c.loop-at.at c.args.self.now c.loop-at.self c.index_mut.result.now c.submit_until.new.self
+    c.index.result.now i lt c.index_mut.ensures.value done.goes done.feed done.given _ refl refl
 
 pub returns : goal.returns
 returns g c =

@@ -13,5 +13,6 @@ loop-k-preserved c = record {
       ∙ ap (λ (y : List SealedOrder). y ++ c.in_ok-order.order ∷ []) c.loop-k.invariant.items
       ∙ ap (λ (s : SealedOrder). take c.loop-k.k c.args.self.now ++ s ∷ []) c.in_ok-order.ensures.value
       ∙ sym (take_get c.args.self.now c.loop-k.k c.at.result c.at.ensures);
-  short = subst (λ (y : List SealedOrder). All (λ s. IsShort s.order) y) (sym c.in_ok-push.ensures.items) (All-push (λ s. IsShort s.order) c.loop-k.orders.items c.in_ok-order.order c.loop-k.invariant.short c.in_ok-order.ensures.short);
+  short = subst (λ (y : List SealedOrder). All (λ s. IsShort s.order) y) (sym c.in_ok-push.ensures.items)
+      (All-push (λ s. IsShort s.order) c.loop-k.orders.items c.in_ok-order.order c.loop-k.invariant.short c.in_ok-order.ensures.short);
 }

@@ -5,7 +5,8 @@ use Rattle.wire_view.proofs.Slots.{twice, not_yet, taken_before}
 use Rattle.wire_view.proofs.txs.TxsView.repeats.Goals as goal
 
 pub returns-then-stands_from : goal.returns-then-stands_from
-returns-then-stands_from c = sym (twice c.args.self.now c.loop-k.k c.at-tx.result (omega arith) c.at-tx.ensures (sym c.stands_from.ensures ∙ c.if-stands_from.true))
+returns-then-stands_from c =
+    sym (twice c.args.self.now c.loop-k.k c.at-tx.result (omega arith) c.at-tx.ensures (sym c.stands_from.ensures ∙ c.if-stands_from.true))
 
 pub loop-k-preserved : goal.loop-k-preserved
 loop-k-preserved c =

@@ -16,7 +16,8 @@ unreachable-requires c =
 pub loop-preserved : goal.loop-preserved
 loop-preserved c =
     let within : c.loop.counter < length c.args.self.now = omega (arith, c.loop-test.true, c.requires) in
-    (next_is vote_at (λ v. v.replica) c.args.self.now c.loop.counter c.loop.least c.loop.rest.now (record { replica = c.in-Ok.replica; seal = c.in-Ok.field-0-0-1.now }) c.in-Ok.after.now within c.in-Ok.ensures.gives c.loop.invariant).1
+    (next_is vote_at (λ v. v.replica) c.args.self.now c.loop.counter c.loop.least c.loop.rest.now
+    (record { replica = c.in-Ok.replica; seal = c.in-Ok.field-0-0-1.now }) c.in-Ok.after.now within c.in-Ok.ensures.gives c.loop.invariant).1
 
 pub unreachable-requires-in_default-read_vote : goal.unreachable-requires-in_default-read_vote
 unreachable-requires-in_default-read_vote c =
@@ -29,4 +30,7 @@ pub returns : goal.returns
 returns c =
     let at : c.loop.counter ≡ c.args.k = omega (arith, c.loop-test.false, c.loop.auto.counter-end) in
     let within : c.loop.counter < length c.args.self.now = omega (arith, at, c.requires) in
-    rw (← at) ((next_is vote_at (λ v. v.replica) c.args.self.now c.loop.counter c.loop.least c.loop.rest.now (record { replica = c.in-Ok-read_vote.vote.0; seal = c.in-Ok-read_vote.vote.1.now }) c.in-Ok-read_vote.field-0-1.now within c.in-Ok-read_vote.ensures.gives c.loop.invariant).0)
+    rw (← at)
+    ((next_is vote_at (λ v. v.replica) c.args.self.now c.loop.counter c.loop.least c.loop.rest.now
+    (record { replica = c.in-Ok-read_vote.vote.0; seal = c.in-Ok-read_vote.vote.1.now }) c.in-Ok-read_vote.field-0-1.now within
+    c.in-Ok-read_vote.ensures.gives c.loop.invariant).0)
