@@ -25,7 +25,7 @@ pub use desk::Desk;
 const MAX_ARRIVED: usize = 65_536;
 /// Of these, for what blocks propose.
 const MAX_NAMED: usize = 4096;
-/// Of these, for everything.
+/// So many arrive by their receipts; above it, only what blocks propose does.
 pub const MAX_TAKEN: usize = MAX_ARRIVED - MAX_NAMED;
 /// The library lets no more arrive in one call.
 const MAX_ARRIVALS: usize = 480;
